@@ -87,10 +87,13 @@ pub fn calls(threads: &(impl Threads + Sync), alloc: Global) -> [Call; 11] {
             threads_see_every_epoch(threads, alloc).unwrap_or(false),
         ),
         call_result(
-            "epochs one call behind another",
+            "epochs in consecutive calls",
             counts_in_transition(alloc).unwrap_or(false),
         ),
-        call_result("the plain machine", runs_plainly(alloc).unwrap_or(false)),
+        call_result(
+            "the sequential machine",
+            runs_plainly(alloc).unwrap_or(false),
+        ),
         call_result(
             "barriers in each phase",
             barriers_do_as_shown(alloc).unwrap_or(false),

@@ -22,7 +22,7 @@ pub enum Action {
 
 /// What a method does; none where it has code of its own.
 pub fn action_of(classes: Classes<'_>, found: Found<'_>) -> Option<Action> {
-    let class = classes.built_in_name(found.class)?;
+    let class = classes.built_in_name(found.class())?;
     match (class, name_of(found.method)) {
         ("System.Object" | "Cilvm.Thread", ".ctor") => Some(Action::Construct),
         ("System.Console", "WriteLine") => Some(Action::Write),

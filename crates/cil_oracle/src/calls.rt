@@ -72,11 +72,11 @@ impl<'a> State<'a> {
         let constructor = self.classes.method_at(found)?;
         frame.check_operands(parameters)?;
         if action_of(self.classes, constructor).is_some() {
-            let object = self.new_instance(constructor.class)?;
+            let object = self.new_instance(constructor.class())?;
             return frame.next_with(Value::Reference(object));
         }
         self.transition.check_depth(self.limits)?;
-        let object = self.new_instance(constructor.class)?;
+        let object = self.new_instance(constructor.class())?;
         let mut arguments = frame.take(parameters.len())?;
         arguments.insert(0, Value::Reference(object))?;
         let mut callee = self.frame_of(constructor, arguments)?;

@@ -7,18 +7,34 @@ use cil_model::instructions::{FieldReference, MethodName};
 use cil_model::trees::Method;
 use cil_model::types::{ClassName, DeclaredType, Element};
 use name_tables::classes::DeclaredClass;
+use name_tables::ids::{ClassId, FieldId, MethodId};
 use name_tables::keys::{ClassKey, MethodKey};
 use name_tables::kinds::{is_new_slot_method, is_virtual};
-use name_tables::lookups::{MemberNumber, NameTables};
+use name_tables::lookups::NameTables;
 
 /// A method, and the number of the class that declares it.
 #[derive(Clone, Copy)]
 pub struct Found<'a> {
-    pub class: usize,
+    class: usize,
     pub method: &'a Method,
 }
 
-/// The classes of a program, by number.
+impl<'a> Found<'a> {
+    /// A method of a class.
+    pub fn new(class: ClassId, method: &'a Method) -> Found<'a> {
+        Found {
+            class: class.number(),
+            method,
+        }
+    }
+
+    /// The class that declares it.
+    pub fn class(&self) -> ClassId {
+        ClassId::new(self.class)
+    }
+}
+
+/// The classes of a program, by id.
 #[derive(Clone, Copy)]
 pub struct Classes<'a> {
     pub names: &'a NameTables<'a>,
@@ -26,33 +42,33 @@ pub struct Classes<'a> {
 }
 
 impl<'a> Classes<'a> {
-    /// What the class of a number declares.
-    pub fn source_class(&self, class: usize) -> Option<&'a DeclaredClass<'a>> {
+    /// What a class declares.
+    pub fn source_class(&self, class: ClassId) -> Option<&'a DeclaredClass<'a>> {
         self.names.classes.class(class)
     }
 
     /// The field that a reference finds.
-    pub fn field(&self, is_static: bool, field: &FieldReference) -> Result<MemberNumber, Halt> {
+    pub fn field(&self, is_static: bool, field: &FieldReference) -> Result<FieldId, Halt> {
         self.names.find_field(is_static, field).ok_or(Halt::Sticks)
     }
 
-    /// The method of the number that a look-up found.
-    pub fn method_at(&self, found: Option<MemberNumber>) -> Result<Found<'a>, Halt> {
-        let MemberNumber { class, index } = found.ok_or(Halt::Sticks)?;
+    /// The method of the id that a look-up found.
+    pub fn method_at(&self, found: Option<MethodId>) -> Result<Found<'a>, Halt> {
+        let MethodId { class, index } = found.ok_or(Halt::Sticks)?;
         let declared = self.source_class(class).ok_or(Halt::Sticks)?;
         match declared.methods.get(index) {
             None => Err(Halt::Sticks),
-            Some(method) => Ok(Found { class, method }),
+            Some(method) => Ok(Found::new(class, method)),
         }
     }
 
     /// The class, its base, and so on (ECMA-335 I.8.9.9).
-    pub fn chain(&self, class: usize) -> &'a [usize] {
+    pub fn chain(&self, class: ClassId) -> &'a [ClassId] {
         self.chains.chain(class)
     }
 
     /// The name of a built-in class; none where it is a class of the source.
-    pub fn built_in_name(&self, class: usize) -> Option<&'a str> {
+    pub fn built_in_name(&self, class: ClassId) -> Option<&'a str> {
         let key = self.source_class(class)?.name;
         match key.assembly {
             None => None,
@@ -61,7 +77,7 @@ impl<'a> Classes<'a> {
     }
 
     /// The method that a thread of the class runs: its own for the `Run` of `Cilvm.Thread` (this profile).
-    pub fn run_method(&self, class: usize) -> Result<Found<'a>, Halt> {
+    pub fn run_method(&self, class: ClassId) -> Result<Found<'a>, Halt> {
         for base in self.chain(class) {
             if self.built_in_name(*base) == Some("Cilvm.Thread") {
                 return self.target(class, self.method_named("Run", *base)?);
@@ -71,11 +87,11 @@ impl<'a> Classes<'a> {
     }
 
     /// The first method of a class with that name.
-    fn method_named(&self, name: &str, class: usize) -> Result<Found<'a>, Halt> {
+    fn method_named(&self, name: &str, class: ClassId) -> Result<Found<'a>, Halt> {
         let declared = self.source_class(class).ok_or(Halt::Sticks)?;
         for method in declared.methods.as_slice() {
             if name_of(method) == name {
-                return Ok(Found { class, method });
+                return Ok(Found::new(class, method));
             }
         }
         Err(Halt::Sticks)
@@ -101,7 +117,7 @@ impl<'a> Classes<'a> {
             Element::String => OracleElement::String,
             Element::Class(name) => {
                 let class = self.names.classes.number(ClassKey::of(name));
-                OracleElement::Class(class.ok_or(Halt::Sticks)?)
+                OracleElement::Class(class.ok_or(Halt::Sticks)?.number())
             }
         };
         Ok(OracleType {
@@ -111,16 +127,16 @@ impl<'a> Classes<'a> {
     }
 
     /// The type of a class's objects: `object` and `string` have names of their own (ECMA-335 II.7.2).
-    pub fn type_of_class(&self, class: usize) -> OracleType {
+    pub fn type_of_class(&self, class: ClassId) -> OracleType {
         OracleType::plain(match self.built_in_name(class) {
             Some("System.Object") => OracleElement::Object,
             Some("System.String") => OracleElement::String,
-            _ => OracleElement::Class(class),
+            _ => OracleElement::Class(class.number()),
         })
     }
 
     /// Whether a class lists the interface itself.
-    fn lists(&self, class: usize, interface: usize) -> bool {
+    fn lists(&self, class: ClassId, interface: ClassId) -> bool {
         match self.source_class(class) {
             None => false,
             Some(declared) => self.is_among(declared.interfaces, interface),
@@ -128,7 +144,7 @@ impl<'a> Classes<'a> {
     }
 
     /// Whether one of the names is the class's.
-    fn is_among(&self, names: &[ClassName], class: usize) -> bool {
+    fn is_among(&self, names: &[ClassName], class: ClassId) -> bool {
         for name in names {
             if self.names.classes.number(ClassKey::of(name)) == Some(class) {
                 return true;
@@ -138,7 +154,7 @@ impl<'a> Classes<'a> {
     }
 
     /// Whether the class is the expected one, is below it, or has it as an interface.
-    fn is_class_assignable(&self, class: usize, required: usize) -> bool {
+    fn is_class_assignable(&self, class: ClassId, required: ClassId) -> bool {
         for base in self.chain(class) {
             if *base == required || self.lists(*base, required) {
                 return true;
@@ -164,6 +180,7 @@ impl<'a> Classes<'a> {
         match (held.element, to.element) {
             (_, OracleElement::Object) => held.is_reference(),
             (OracleElement::Class(class), OracleElement::Class(required)) => {
+                let (class, required) = (ClassId::new(class), ClassId::new(required));
                 held.brackets == 0 && self.is_class_assignable(class, required)
             }
             _ => held == to,
@@ -174,7 +191,7 @@ impl<'a> Classes<'a> {
 /// Which method a virtual call runs. A slot is known by the class that introduced it.
 impl<'a> Classes<'a> {
     /// The slot that the nearest method of this name and signature along a chain fills.
-    fn slot_along(&self, key: MethodKey<'a>, chain: &[usize]) -> Option<usize> {
+    fn slot_along(&self, key: MethodKey<'a>, chain: &[ClassId]) -> Option<ClassId> {
         let mut slot = None;
         for class in chain.iter().rev() {
             slot = match self.names.classes.method(*class, key) {
@@ -188,7 +205,12 @@ impl<'a> Classes<'a> {
     }
 
     /// The method that fills, for objects of the class, the slot of the method of that owner.
-    fn class_target(&self, key: MethodKey<'a>, class: usize, owner: usize) -> Option<Found<'a>> {
+    fn class_target(
+        &self,
+        key: MethodKey<'a>,
+        class: ClassId,
+        owner: ClassId,
+    ) -> Option<Found<'a>> {
         let slot = self.slot_along(key, self.chain(owner))?;
         let chain = self.chain(class);
         for start in 0..chain.len() {
@@ -196,17 +218,14 @@ impl<'a> Classes<'a> {
                 continue;
             };
             if self.slot_along(key, &chain[start..]) == Some(slot) {
-                return Some(Found {
-                    class: chain[start],
-                    method,
-                });
+                return Some(Found::new(chain[start], method));
             }
         }
         None
     }
 
     /// The nearest class of a chain with a virtual method of this name and signature.
-    fn nearest_virtual(&self, key: MethodKey<'a>, chain: &[usize]) -> Option<usize> {
+    fn nearest_virtual(&self, key: MethodKey<'a>, chain: &[ClassId]) -> Option<ClassId> {
         for class in chain {
             if let Some(method) = self.names.classes.method(*class, key) {
                 if is_virtual(&method.kind) {
@@ -221,8 +240,8 @@ impl<'a> Classes<'a> {
     fn interface_target(
         &self,
         key: MethodKey<'a>,
-        class: usize,
-        interface: usize,
+        class: ClassId,
+        interface: ClassId,
     ) -> Option<Found<'a>> {
         for implementer in self.chain(class) {
             if self.lists(*implementer, interface) {
@@ -235,13 +254,13 @@ impl<'a> Classes<'a> {
 
     /// The method that runs where a virtual one is called on an object of the class (ECMA-335 II.10.3 and II.12.2; where an interface
     /// is listed again, this profile).
-    pub fn target(&self, class: usize, called: Found<'a>) -> Result<Found<'a>, Halt> {
+    pub fn target(&self, class: ClassId, called: Found<'a>) -> Result<Found<'a>, Halt> {
         let key = MethodKey::new(&called.method.name, &called.method.signature);
-        let owner = self.source_class(called.class).ok_or(Halt::Sticks)?;
+        let owner = self.source_class(called.class()).ok_or(Halt::Sticks)?;
         let found = if owner.is_interface {
-            self.interface_target(key, class, called.class)
+            self.interface_target(key, class, called.class())
         } else {
-            self.class_target(key, class, called.class)
+            self.class_target(key, class, called.class())
         };
         found.ok_or(Halt::Sticks)
     }

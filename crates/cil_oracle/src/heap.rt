@@ -6,7 +6,7 @@ use crate::values::{OracleElement, OracleType, Value};
 use cil_model::instructions::ElementKind;
 use cil_model::reports::Fault;
 use cil_model::texts::Text;
-use name_tables::lookups::MemberNumber;
+use name_tables::ids::{ClassId, FieldId};
 use std::alloc::Global;
 
 /// The lock of an object: the thread that holds it, and how often (ECMA-335 I.12.6.5).
@@ -19,12 +19,12 @@ pub enum Monitor {
 /// A field with its value.
 #[derive(Clone, Copy)]
 pub struct FieldValue {
-    pub field: MemberNumber,
+    pub field: FieldId,
     pub value: Value,
 }
 
 /// The value of a field.
-pub fn field_in(fields: &[FieldValue], field: MemberNumber) -> Result<Value, Halt> {
+pub fn field_in(fields: &[FieldValue], field: FieldId) -> Result<Value, Halt> {
     for entry in fields {
         if entry.field == field {
             return Ok(entry.value);
@@ -34,11 +34,7 @@ pub fn field_in(fields: &[FieldValue], field: MemberNumber) -> Result<Value, Hal
 }
 
 /// Puts another value of its kind into a field.
-pub fn set_field_in(
-    fields: &mut [FieldValue],
-    field: MemberNumber,
-    value: Value,
-) -> Result<(), Halt> {
+pub fn set_field_in(fields: &mut [FieldValue], field: FieldId, value: Value) -> Result<(), Halt> {
     for entry in fields.iter_mut() {
         if entry.field == field && entry.value.has_same_kind(value) {
             entry.value = value;
@@ -62,7 +58,7 @@ pub fn set_value(values: &mut [Value], index: usize, value: Value) -> Result<(),
 /// What an object is: of a class, with its fields; an array; or a string literal.
 #[derive(Drop)]
 pub enum Contents<'a> {
-    Instance(usize, Vec<FieldValue>),
+    Instance(ClassId, Vec<FieldValue>),
     Array(OracleType, Vec<Value>),
     Literal(&'a Text),
 }
@@ -146,7 +142,7 @@ impl<'a> Heap<'a> {
     }
 
     /// The class of an object, by which a virtual call finds its method.
-    pub fn class_of(&self, name: usize) -> Result<usize, Halt> {
+    pub fn class_of(&self, name: usize) -> Result<ClassId, Halt> {
         match &self.object(name)?.contents {
             Contents::Instance(class, _) => Ok(*class),
             _ => Err(Halt::Sticks),

@@ -8,6 +8,7 @@ use cil_model::limits::Limits;
 use cil_model::memory::NoMemory;
 use cil_model::reports::{End, Report};
 use name_tables::bodies::code_of;
+use name_tables::ids::ClassId;
 use name_tables::lookups::NameTables;
 use std::alloc::Global;
 use std::fmt;
@@ -23,7 +24,7 @@ fn entry_point<'a>(names: &NameTables<'a>) -> Option<Found<'a>> {
     for (class, table) in names.classes.all().iter().enumerate() {
         for method in table.class.methods.as_slice() {
             if code_of(&method.kind).is_some_and(|code| code.is_entry_point) {
-                return Some(Found { class, method });
+                return Some(Found::new(ClassId::new(class), method));
             }
         }
     }

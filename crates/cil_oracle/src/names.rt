@@ -1,14 +1,15 @@
 //! The names of a program, with the chain of each class.
 
 use cil_model::memory::NoMemory;
+use name_tables::ids::ClassId;
 use name_tables::lookups::NameTables;
 use std::alloc::Global;
 
-/// The tables of a program's names, and the numbers of each class's chain, the class itself first (ECMA-335 I.8.9.9).
+/// The tables of a program's names, and each class's chain, the class itself first (ECMA-335 I.8.9.9).
 #[derive(Drop)]
 pub struct OracleNames<'a> {
     pub tables: &'a NameTables<'a>,
-    chains: Vec<Vec<usize>>,
+    chains: Vec<Vec<ClassId>>,
 }
 
 impl<'a> OracleNames<'a> {
@@ -16,14 +17,14 @@ impl<'a> OracleNames<'a> {
     pub fn new(alloc: Global, tables: &'a NameTables<'a>) -> Result<Self, NoMemory> {
         let mut chains = Vec::new(alloc);
         for class in 0..tables.classes.all().len() {
-            chains.push(tables.line(alloc, class)?)?;
+            chains.push(tables.line(alloc, ClassId::new(class))?)?;
         }
         Ok(OracleNames { tables, chains })
     }
 
     /// The chain of a class; empty where there is no such class.
-    pub fn chain(&self, class: usize) -> &[usize] {
-        match self.chains.get(class) {
+    pub fn chain(&self, class: ClassId) -> &[ClassId] {
+        match self.chains.get(class.number()) {
             None => &[],
             Some(chain) => chain.as_slice(),
         }

@@ -8,6 +8,7 @@ use crate::values::Value;
 use cil_model::instructions::{ElementKind, FieldReference};
 use cil_model::reports::Fault;
 use cil_model::types::DeclaredType;
+use name_tables::ids::ClassId;
 
 /// Fields.
 impl<'a> State<'a> {
@@ -53,7 +54,7 @@ impl<'a> State<'a> {
 /// Births, which may be refused.
 impl<'a> State<'a> {
     /// A new object of a class (ECMA-335 III.4.21).
-    pub fn new_instance(&mut self, class: usize) -> Result<usize, Halt> {
+    pub fn new_instance(&mut self, class: ClassId) -> Result<usize, Halt> {
         self.transition.check_birth()?;
         let mut fields = Vec::new(self.alloc);
         for base in self.classes.chain(class) {

@@ -9,7 +9,7 @@ use crate::values::Value;
 use cil_model::limits::Limits;
 use cil_model::reports::{End, Fault};
 use name_tables::bodies::code_of;
-use name_tables::lookups::MemberNumber;
+use name_tables::ids::{ClassId, FieldId};
 use std::alloc::Global;
 use std::fmt;
 
@@ -106,7 +106,7 @@ impl<'a> State<'a> {
     pub fn open(&mut self, entry: Found<'a>) -> Result<(), Halt> {
         let mut statics = Vec::new(self.alloc);
         for class in 0..self.classes.names.classes.all().len() {
-            self.add_fields(&mut statics, class, true)?;
+            self.add_fields(&mut statics, ClassId::new(class), true)?;
         }
         self.statics = statics;
         let first = self.frame_of(entry, Vec::new(self.alloc))?;
@@ -117,7 +117,7 @@ impl<'a> State<'a> {
     pub fn add_fields(
         &self,
         fields: &mut Vec<FieldValue>,
-        class: usize,
+        class: ClassId,
         is_static: bool,
     ) -> Result<(), Halt> {
         let Some(declared) = self.classes.source_class(class) else {
@@ -126,7 +126,7 @@ impl<'a> State<'a> {
         for (index, field) in declared.fields.iter().enumerate() {
             if field.is_static == is_static {
                 fields.push(FieldValue {
-                    field: MemberNumber { class, index },
+                    field: FieldId { class, index },
                     value: Value::zero_of(&field.field_type),
                 })?;
             }

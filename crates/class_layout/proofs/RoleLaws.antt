@@ -17,7 +17,7 @@ use Rattle.cil_model.specs.Legality.{IsLegal}
 use Rattle.name_tables.specs.Numbers.{class_number, chain_numbers, declarations, method_found}
 use Rattle.name_tables.specs.Sameness.{MethodIdentity, identity_of, same_identity, same_called, called_of}
 use Rattle.name_tables.specs.SamenessLaws.{same_identity_equal, same_identity_itself}
-use Rattle.name_tables.specs.declared.lookups.MemberNumber.{MemberNumber}
+use Rattle.name_tables.specs.declared.ids.MethodId.{MethodId}
 use Rattle.resolved_code.specs.Found.{is_virtual_found, slot_filled_at, slot_over, slot_by_id}
 use Rattle.resolved_code.specs.Identities.{identities, identity_number}
 use Rattle.resolved_code.specs.Resolved.{AllAlike, AreResolved, IsResolvedKind, IsResolvedMethod, BothAlike}
@@ -248,14 +248,14 @@ module _ (tree : Tree) (k : MethodIdentity) (i : ℕ) (has_id : identity_number 
     own_known : (n : ℕ) → own_at rs i n ≡ own_method tree k n
     own_known n = by_entry (slice_get (declarations tree) n) (slice_get rs n) refl (alike_at (IsClass tree) (declarations tree) rs are n)
       where
-        at : ℕ → MemberNumber
+        at : ℕ → MethodId
         at index = record { class = n; index = index }
 
         by_entry : (o : Option (ClassName × Declaration)) (p : Option ResolvedClass) → slice_get (declarations tree) n ≡ o → BothAlike (IsClass tree) o p →
-            option_and_then {U = MemberNumber} (λ (r : ResolvedClass). option_map (λ index. record { class = n; index = index }) (own_index i r.methods)) p ≡
-            option_map {U = MemberNumber} (λ index. record { class = n; index = index }) (option_and_then (λ (e : ClassName × Declaration). position_from own_test 0 e.1.methods) o)
+            option_and_then {U = MethodId} (λ (r : ResolvedClass). option_map (λ index. record { class = n; index = index }) (own_index i r.methods)) p ≡
+            option_map {U = MethodId} (λ index. record { class = n; index = index }) (option_and_then (λ (e : ClassName × Declaration). position_from own_test 0 e.1.methods) o)
         by_entry None None e h = refl
-        by_entry (Some x) (Some r) e h = ap (option_map {U = MemberNumber} (λ index. record { class = n; index = index })) (own_found 0 x.1.methods r.methods (known_in n x e) h.methods)
+        by_entry (Some x) (Some r) e h = ap (option_map {U = MethodId} (λ index. record { class = n; index = index })) (own_found 0 x.1.methods r.methods (known_in n x e) h.methods)
         by_entry None (Some r) e h = absurd h
         by_entry (Some x) None e h = absurd h
 
@@ -343,7 +343,7 @@ module _ (tree : Tree) (k : MethodIdentity) (i : ℕ) (has_id : identity_number 
             by_entry None = refl
             by_entry (Some r) = refl
 
-        abbrev by_kind : Bool → Option MemberNumber
+        abbrev by_kind : Bool → Option MethodId
         by_kind b = if b then option_and_then (interface_implementation tree (by_class tree (interface_numbers tree)) k (chain_numbers tree d.0)) (class_number tree e.0) else class_implementation tree k (chain_numbers tree d.0) (chain_numbers tree e.0)
 
         -- where an interface's method is called

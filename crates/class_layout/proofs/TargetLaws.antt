@@ -17,7 +17,7 @@ use Rattle.cil_model.specs.Legality.{IsLegal}
 use Rattle.name_tables.specs.Sameness.{MethodIdentity, same_identity, identity_of, same_called, called_of}
 use Rattle.name_tables.specs.SamenessLaws.{identity_equivalence}
 use Rattle.name_tables.specs.Numbers.{declarations, class_number, chain_numbers, method_at, index_in, method_found}
-use Rattle.name_tables.specs.declared.lookups.MemberNumber.{MemberNumber}
+use Rattle.name_tables.specs.declared.ids.MethodId.{MethodId}
 use Rattle.name_tables.proofs.NumberLaws.{none_is_some, in_present}
 use Rattle.name_tables.proofs.Lists.{option_map_of_map}
 use Rattle.resolved_code.specs.Found.{is_virtual_found, slot_by_id}
@@ -63,7 +63,7 @@ find_own k (x ∷ xs) m h s = by_test (same_identity (identity_of x) k) refl h (
 
 module _ (tree : Tree) where
   -- what a number of a method refers to
-  abbrev pub target_method : MemberNumber → Option (ClassName × Method)
+  abbrev pub target_method : MethodId → Option (ClassName × Method)
   target_method r = method_at tree (r.class, r.index)
 
   -- the chain of a class by its number
@@ -133,7 +133,7 @@ module _ (tree : Tree) where
         let own : Method → Bool = λ x. same_called (k, false) (called_of x) in
         let has_id : option_map (λ p. method_at tree (n, p)) (index_in (λ d. d.methods) own tree n) ≡ option_map (λ x. Some (c, x)) (find own (methods_declared tree c)) =
         in_present tree (λ d. d.methods) own own (λ x. refl) c found.0 n found.1 found.2 in
-        option_map_of_map (λ p. let r : MemberNumber = record { class = n; index = p } in r) target_method (index_in (λ d. d.methods) own tree n) ∙ has_id ∙
+        option_map_of_map (λ p. let r : MethodId = record { class = n; index = p } in r) target_method (index_in (λ d. d.methods) own tree n) ∙ has_id ∙
         ap (option_map (λ x. Some (c, x))) (find_own k (methods_declared tree c) m g (virtual_not_static m.kind v))
 
     -- a class's method
@@ -245,7 +245,7 @@ module _ (tree : Tree) where
       by_kind true = ap (λ o. option_map target_method (option_and_then (interface_implementation tree (by_class tree (interface_numbers tree)) (identity_of m) (chain_numbers tree d)) o)) e ∙ interface_known (identity_of m) d c n e
       by_kind false = class_known (identity_of m) d c
 
-  row_decides : (c d : ClassName) (n class : ℕ) (m : Method) (method : MemberNumber) → class_number tree c ≡ Some n → class_name tree class ≡ Some d → target_method method ≡ Some (c, m) →
+  row_decides : (c d : ClassName) (n class : ℕ) (m : Method) (method : MethodId) → class_number tree c ≡ Some n → class_name tree class ≡ Some d → target_method method ≡ Some (c, m) →
       option_map target_method (target_in class method (target_row tree c m)) ≡ option_map Some (target tree d c m)
   row_decides c d n class m method e named at = by_kind (is_virtual m.kind)
     where
@@ -261,11 +261,11 @@ module _ (tree : Tree) where
       by_row None = refl
       by_row (Some row) = refl
 
-  abbrev Tells : List (List Targets) → ℕ → MemberNumber → ClassName → ClassName → Method → Type 0
+  abbrev Tells : List (List Targets) → ℕ → MethodId → ClassName → ClassName → Method → Type 0
   Tells rows class method d x y = option_map target_method (option_and_then (target_in class method) (option_map targets_of (slice_get (unwrap_or (slice_get rows method.class) []) method.index))) ≡ option_map Some (target tree d x y)
 
   -- what the table says of a method and a class of objects
-  pub target_found : IsLegal tree → (rows : List (List Targets)) (class : ℕ) (method : MemberNumber) (c d : ClassName) (m : Method) → map (map targets_of) rows ≡ by_class tree (target_rows tree) → class_name tree class ≡ Some d → target_method method ≡ Some (c, m) →
+  pub target_found : IsLegal tree → (rows : List (List Targets)) (class : ℕ) (method : MethodId) (c d : ClassName) (m : Method) → map (map targets_of) rows ≡ by_class tree (target_rows tree) → class_name tree class ≡ Some d → target_method method ≡ Some (c, m) →
       option_map target_method (option_and_then (target_in class method) (option_map targets_of (slice_get (unwrap_or (slice_get rows method.class) []) method.index))) ≡ option_map Some (target tree d c m)
   target_found legal rows class method c d m are named at = by_entry (slice_get (declarations tree) method.class) refl at
     where

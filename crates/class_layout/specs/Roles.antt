@@ -5,7 +5,7 @@ use Rattle.std.specs.Option.{option_map_or}
 use Rattle.cil_model.specs.declared.trees.Tree.{Tree}
 use Rattle.cil_model.specs.declared.trees.MethodKind.{MethodKind}
 use Rattle.cil_model.specs.declared.trees.MethodKind.TheVariants as NamedKind
-use Rattle.name_tables.specs.declared.lookups.MemberNumber.{MemberNumber}
+use Rattle.name_tables.specs.declared.ids.MethodId.{MethodId}
 use Rattle.resolved_code.specs.declared.classes.ResolvedClass.{ResolvedClass}
 use Rattle.resolved_code.specs.declared.classes.ResolvedMethod.{ResolvedMethod}
 use Rattle.resolved_code.specs.declared.classes.ResolvedKind.{ResolvedKind}
@@ -52,7 +52,7 @@ own_index i rs = position_from (λ (r : ResolvedMethod). (i == r.identity) && no
 abbrev pub role_at : List ResolvedClass → ℕ → ℕ → Option Role
 role_at classes i n = option_and_then (λ (r : ResolvedClass). role_in i r.methods) (slice_get classes n)
 
-abbrev pub own_at : List ResolvedClass → ℕ → ℕ → Option MemberNumber
+abbrev pub own_at : List ResolvedClass → ℕ → ℕ → Option MethodId
 own_at classes i n = option_and_then (λ (r : ResolvedClass). option_map (λ index. record { class = n; index = index }) (own_index i r.methods)) (slice_get classes n)
 
 -- a method that fills a slot is virtual
@@ -89,11 +89,11 @@ implementation_along classes i slot [] = None
 implementation_along classes i slot (n ∷ ns) = implementation_from classes i n (option_map_or (λ s. s == slot) (slot_along classes i (n ∷ ns)) false) (implementation_along classes i slot ns)
 
 -- the method that fills along one chain the slot that is known along another
-abbrev pub filled_along : List ResolvedClass → ℕ → List ℕ → List ℕ → Option MemberNumber
+abbrev pub filled_along : List ResolvedClass → ℕ → List ℕ → List ℕ → Option MethodId
 filled_along classes i chain introduced = option_and_then (λ slot. option_and_then (own_at classes i) (implementation_along classes i slot chain)) (slot_along classes i introduced)
 
 -- the method that fills the slot of the nearest virtual method, as seen from the nearest class of a chain that lists the interface
-abbrev pub listed_implementation : Tree → List ResolvedClass → ℕ → List ℕ → ℕ → Option MemberNumber
+abbrev pub listed_implementation : Tree → List ResolvedClass → ℕ → List ℕ → ℕ → Option MethodId
 listed_implementation tree classes i chain interface =
     option_and_then (λ implementer. option_and_then (λ found. filled_along classes i chain (chain_at tree found)) (find (is_virtual_at classes i) (chain_at tree implementer)))
     (find (is_implementer (map (λ (r : ResolvedClass). r.interfaces) classes) interface) chain)

@@ -1,4 +1,4 @@
-//! Which types may be given for which, by the numbers of their classes (ECMA-335 I.8.7).
+//! Which types may be given for which, by their classes (ECMA-335 I.8.7).
 
 ghost use Rattle.std.specs.Prelude.{◌≡◌, ◌<◌, ◌==◌, ℕ, IfOk, Some, map, length, flat_map, slice_get};
 ghost use Rattle.std.specs.List.{list_any};
@@ -13,6 +13,7 @@ ghost use Rattle.class_layout.specs.ByClass.{by_class, assignable_row, with_inte
 use crate::classes::Classes;
 use crate::rows::{flag_at, row_at};
 use cil_model::memory::NoMemory;
+use name_tables::ids::ClassId;
 use resolved_code::type_tests::TypeTest;
 use resolved_code::types::ResolvedType;
 use std::alloc::Global;
@@ -24,32 +25,33 @@ pub struct Ancestry {
 }
 
 /// The classes of a chain, each with the interfaces that it lists.
-fn ancestors(alloc: Global, classes: &Classes, chain: &[usize]) -> Result<Vec<usize>, NoMemory>
+fn ancestors(alloc: Global, classes: &Classes, chain: &[ClassId]) -> Result<Vec<ClassId>, NoMemory>
     ensures { IfOk result (λ v. v.items ≡ flat_map (with_interfaces (map (λ r. r.interfaces) classes.now.all.now)) chain.now) }
 {
-    let mut numbers = Vec::new(alloc);
+    let mut ancestors = Vec::new(alloc);
     for class in chain {
-        numbers.push(*class)?;
-        numbers.extend_from_slice(classes.interfaces(*class))?;
+        ancestors.push(*class)?;
+        ancestors.extend_from_slice(classes.interfaces(*class))?;
     }
-    Ok(numbers)
+    Ok(ancestors)
 }
 
-/// For each number below the count, whether it is among these.
-fn marks(alloc: Global, count: usize, numbers: &[usize]) -> Result<Vec<bool>, NoMemory>
-    ensures { IfOk result (λ v. (length v.items ≡ count) × ((j : ℕ) → j < count → slice_get v.items j ≡ Some (list_any (λ m. m == j) numbers.now))) }
+/// For each class whose number is below the count, whether it is among these.
+fn marks(alloc: Global, count: usize, classes: &[ClassId]) -> Result<Vec<bool>, NoMemory>
+    ensures { IfOk result (λ v. (length v.items ≡ count) × ((j : ℕ) → j < count → slice_get v.items j ≡ Some (list_any (λ m. m == j) classes.now))) }
 {
     let mut marks = vec![in alloc; false; count]?;
-    for number in numbers {
-        if *number < marks.len() {
-            marks[*number] = true;
+    for class in classes {
+        let number = class.number();
+        if number < marks.len() {
+            marks[number] = true;
         }
     }
     Ok(marks)
 }
 
 /// Which classes a class is assignable to.
-fn row(alloc: Global, classes: &Classes, class: usize) -> Result<Vec<bool>, NoMemory>
+fn row(alloc: Global, classes: &Classes, class: ClassId) -> Result<Vec<bool>, NoMemory>
     ensures { IfOk result (λ v. (e : ClassName × Declaration) → slice_get (declarations classes.now.program.now) class ≡ Some e → v.items ≡ assignable_row classes.now.program.now e.0) }
 {
     let ancestors = ancestors(alloc, classes, classes.chain(class))?;
@@ -61,7 +63,7 @@ fn rows(alloc: Global, classes: &Classes) -> Result<Vec<Vec<bool>>, NoMemory>
 {
     let mut rows = Vec::new(alloc);
     for class in 0..classes.count() {
-        rows.push(row(alloc, classes, class)?)?;
+        rows.push(row(alloc, classes, ClassId::new(class))?)?;
     }
     Ok(rows)
 }
@@ -80,7 +82,7 @@ impl Ancestry {
     }
 
     /// Whether a class may be given for another.
-    fn is_class_assignable(&self, from: usize, to: usize) -> bool
+    fn is_class_assignable(&self, from: ClassId, to: ClassId) -> bool
         ensures { result ≡ marked_at (map (λ row. row.items) self.now.rows.items) from to }
     {
         flag_at(row_at(self.rows.as_slice(), from), to)
@@ -92,7 +94,9 @@ impl Ancestry {
     {
         match from.test_for(to) {
             TypeTest::Answered(answer) => answer,
-            TypeTest::OfClasses { from, to } => self.is_class_assignable(from, to),
+            TypeTest::OfClasses { from, to } => {
+                self.is_class_assignable(ClassId::new(from), ClassId::new(to))
+            }
         }
     }
 }

@@ -1,4 +1,4 @@
-//! The classes of a program by their numbers, with their chains of bases (ECMA-335 I.8.9.9).
+//! The classes of a program by their ids, with their chains of bases (ECMA-335 I.8.9.9).
 
 ghost use Rattle.std.specs.Prelude.{◌≡◌, [], IfOk, Some, length, map, slice_get, unwrap_or};
 ghost use Rattle.cil_model.specs.declared.trees.Tree.{Tree};
@@ -12,16 +12,17 @@ ghost use Rattle.class_layout.specs.Targets.{chain_at};
 use crate::rows::row_at;
 use cil_model::memory::NoMemory;
 use cil_model::trees::Tree;
+use name_tables::ids::ClassId;
 use resolved_code::Program;
 use resolved_code::classes::ResolvedClass;
 use std::alloc::Global;
 
-/// The classes of a program, each with the numbers of its chain: its own, its base's, and so on.
+/// The classes of a program, each with its chain: itself, its base, and so on.
 #[derive(Drop)]
 pub struct Classes<'p> {
     pub program: &'p Program,
     pub all: &'p [ResolvedClass],
-    chains: Vec<Vec<usize>>,
+    chains: Vec<Vec<ClassId>>,
     ghost legal: { IsLegal program.now },
     ghost counted: { length all.now ≡ length (declarations program.now) },
     ghost listed_are: { map (λ r. r.interfaces) all.now ≡ by_class program.now (interface_numbers program.now) },
@@ -35,37 +36,37 @@ fn longest_chain(tree: &Tree) -> usize
     tree.classes.as_slice().len() + 3
 }
 
-/// The base of the class of a number.
-fn base_at(classes: &[ResolvedClass], class: usize) -> Option<usize>
+/// The base of a class.
+fn base_at(classes: &[ResolvedClass], class: ClassId) -> Option<ClassId>
     ensures { result ≡ base_at (map (λ r. r.base) classes.now) class }
 {
-    match classes.get(class) {
+    match classes.get(class.number()) {
         None => None,
         Some(resolved) => resolved.base,
     }
 }
 
-/// The numbers of a class's chain, the class itself first, up to `longest` classes.
+/// A class's chain, the class itself first, up to `longest` classes.
 fn chain(
     alloc: Global,
     classes: &[ResolvedClass],
     longest: usize,
-    class: usize,
-) -> Result<Vec<usize>, NoMemory>
+    class: ClassId,
+) -> Result<Vec<ClassId>, NoMemory>
     ensures { IfOk result (λ v. v.items ≡ chain_by (map (λ r. r.base) classes.now) longest (Some class)) }
 {
-    let mut numbers = Vec::new(alloc);
+    let mut chain = Vec::new(alloc);
     let mut next = Some(class);
     let mut left = longest;
     while left > 0 {
-        let Some(number) = next else {
-            return Ok(numbers);
+        let Some(here) = next else {
+            return Ok(chain);
         };
-        numbers.push(number)?;
-        next = base_at(classes, number);
+        chain.push(here)?;
+        next = base_at(classes, here);
         left -= 1;
     }
-    Ok(numbers)
+    Ok(chain)
 }
 
 /// The chain of each class.
@@ -73,12 +74,12 @@ fn chains(
     alloc: Global,
     classes: &[ResolvedClass],
     longest: usize,
-) -> Result<Vec<Vec<usize>>, NoMemory>
+) -> Result<Vec<Vec<ClassId>>, NoMemory>
     ensures { IfOk result (λ v. (tree : Tree) → IsLegal tree → AreResolved tree classes.now → longest ≡ longest_chain tree → map (λ chain. chain.items) v.items ≡ by_class tree (chain_numbers tree)) }
 {
     let mut chains = Vec::new(alloc);
     for class in 0..classes.len() {
-        chains.push(chain(alloc, classes, longest, class)?)?;
+        chains.push(chain(alloc, classes, longest, ClassId::new(class))?)?;
     }
     Ok(chains)
 }
@@ -106,18 +107,18 @@ impl<'p> Classes<'p> {
         self.all.len()
     }
 
-    /// The numbers of the chain of a class.
-    pub fn chain(&self, class: usize) -> &[usize]
+    /// The chain of a class.
+    pub fn chain(&self, class: ClassId) -> &[ClassId]
         ensures { result.now ≡ chain_at self.now.program.now class }
     {
         row_at(self.chains.as_slice(), class)
     }
 
-    /// The numbers of the interfaces that a class lists itself (ECMA-335 II.12.1).
-    pub fn interfaces(&self, class: usize) -> &[usize]
+    /// The interfaces that a class lists itself (ECMA-335 II.12.1).
+    pub fn interfaces(&self, class: ClassId) -> &[ClassId]
         ensures { result.now ≡ unwrap_or (slice_get (map (λ r. r.interfaces) self.now.all.now) class) [] }
     {
-        match self.all.get(class) {
+        match self.all.get(class.number()) {
             None => &[],
             Some(resolved) => resolved.interfaces.as_slice(),
         }

@@ -12,7 +12,7 @@ use crate::kinds::SlotKind;
 use crate::rows::row_at;
 use cil_model::memory::NoMemory;
 use cil_model::values::ValueKind;
-use name_tables::numbers::THREAD;
+use name_tables::ids::{ClassId, THREAD};
 use resolved_code::classes::{ResolvedClass, ResolvedField};
 use std::alloc::Global;
 
@@ -53,24 +53,24 @@ pub fn all_own_kinds(
     Ok(rows)
 }
 
-fn is_thread_class(chain: &[usize]) -> bool
+fn is_thread_class(chain: &[ClassId]) -> bool
     ensures { result ≡ list_any (λ n. n == 4) chain.now }
 {
     chain.contains(&THREAD)
 }
 
 /// The chain from its last class to the first.
-fn bases_first(alloc: Global, chain: &[usize]) -> Result<Vec<usize>, NoMemory>
+fn bases_first(alloc: Global, chain: &[ClassId]) -> Result<Vec<ClassId>, NoMemory>
     ensures { IfOk result (λ v. v.items ≡ reverse chain.now) }
 {
-    let mut numbers = Vec::new(alloc);
-    numbers.extend_from_slice(chain)?;
-    numbers.reverse();
-    Ok(numbers)
+    let mut bases = Vec::new(alloc);
+    bases.extend_from_slice(chain)?;
+    bases.reverse();
+    Ok(bases)
 }
 
 /// The hidden field, where the chain is of a class of threads.
-fn hidden_kinds(alloc: Global, chain: &[usize]) -> Result<Vec<SlotKind>, NoMemory>
+fn hidden_kinds(alloc: Global, chain: &[ClassId]) -> Result<Vec<SlotKind>, NoMemory>
     ensures { IfOk result (λ v. v.items ≡ hidden_kinds chain.now) }
 {
     let mut kinds = Vec::new(alloc);
@@ -85,7 +85,7 @@ fn hidden_kinds(alloc: Global, chain: &[usize]) -> Result<Vec<SlotKind>, NoMemor
 fn chain_kinds(
     alloc: Global,
     own: &[Vec<SlotKind>],
-    chain: &[usize],
+    chain: &[ClassId],
 ) -> Result<Vec<SlotKind>, NoMemory>
     ensures { IfOk result (λ v. v.items ≡ chain_kinds (map (λ row. row.items) own.now) chain.now) }
 {
@@ -108,7 +108,7 @@ pub fn all_kinds(
 {
     let mut rows = Vec::new(alloc);
     for class in 0..classes.count() {
-        rows.push(chain_kinds(alloc, own, classes.chain(class))?)?;
+        rows.push(chain_kinds(alloc, own, classes.chain(ClassId::new(class)))?)?;
     }
     Ok(rows)
 }

@@ -22,7 +22,7 @@ use crate::rows::row_at;
 use crate::slots::{all_fields, number_at};
 use crate::targets::{Targets, all_targets, target_at};
 use cil_model::memory::NoMemory;
-use name_tables::lookups::MemberNumber;
+use name_tables::ids::{ClassId, FieldId, MethodId};
 use resolved_code::types::ResolvedType;
 use std::alloc::Global;
 
@@ -76,29 +76,29 @@ impl Layout {
     }
 
     /// How many slots an object of a class has: the hidden field of a `Cilvm.Thread`, and its instance fields with those of its bases.
-    pub fn slots(&self, class: usize) -> usize
+    pub fn slots(&self, class: ClassId) -> usize
         ensures { (tree : Tree) → IsLayout tree self.now → (c : ClassName) → class_name tree class ≡ Some c → result ≡ length (slot_types tree c) }
     {
         row_at(self.kinds.as_slice(), class).len()
     }
 
     /// What a slot of an object of a class holds; none from `slots` on.
-    pub fn kind(&self, class: usize, slot: usize) -> Option<SlotKind>
+    pub fn kind(&self, class: ClassId, slot: usize) -> Option<SlotKind>
         ensures { (tree : Tree) → IsLayout tree self.now → (c : ClassName) → class_name tree class ≡ Some c → result ≡ option_map kind_of (slice_get (slot_types tree c) slot) }
     {
         kind_at(row_at(self.kinds.as_slice(), class), slot)
     }
 
-    /// Whether a slot of an object of a class holds a reference; false where no class has the number.
-    pub fn is_reference(&self, class: usize, slot: usize) -> bool
+    /// Whether a slot of an object of a class holds a reference; false where there is no such class.
+    pub fn is_reference(&self, class: ClassId, slot: usize) -> bool
         ensures { (tree : Tree) → IsLayout tree self.now → result ≡ option_map_or (λ c. is_reference_slot tree c slot) (class_name tree class) false }
     {
         is_reference_at(row_at(self.kinds.as_slice(), class), slot)
     }
 
     /// The slot of an instance field, the same in objects of its class and of every class below, or the number of a static field among
-    /// all static fields (this profile). The number has to be that of a field, which has one.
-    pub fn slot(&self, field: MemberNumber) -> Option<usize>
+    /// all static fields (this profile). The id has to be that of a field, which has one.
+    pub fn slot(&self, field: FieldId) -> Option<usize>
         ensures instance { (tree : Tree) → IsLayout tree self.now → (c : ClassName) (f : Field) → field_at tree (field.class, field.index) ≡ Some (c, f) → f.is_static ≡ false → result ≡ instance_slot tree (record { declared_in = c; name = f.name }) }
         ensures static_field { (tree : Tree) → IsLayout tree self.now → (c : ClassName) (f : Field) → field_at tree (field.class, field.index) ≡ Some (c, f) → f.is_static ≡ true → result ≡ static_slot tree (record { declared_in = c; name = f.name }) }
     {
@@ -106,9 +106,9 @@ impl Layout {
     }
 
     /// The method that runs where a method is called on an object of a class (ECMA-335 II.10.3, II.12.2; where an interface is listed
-    /// again, this profile); a method that is not virtual is its own. None where no method of the class fills the slot. The numbers
+    /// again, this profile); a method that is not virtual is its own. None where no method of the class fills the slot. The ids
     /// have to be those of a class and of a method.
-    pub fn target(&self, class: usize, method: MemberNumber) -> Option<MemberNumber>
+    pub fn target(&self, class: ClassId, method: MethodId) -> Option<MethodId>
         ensures { (tree : Tree) → IsLayout tree self.now → (c d : ClassName) (m : Method) → class_name tree class ≡ Some d → method_at tree (method.class, method.index) ≡ Some (c, m) → option_map (λ n. method_at tree (n.class, n.index)) result ≡ option_map Some (target tree d c m) }
     {
         target_at(self.targets.as_slice(), class, method)

@@ -9,7 +9,7 @@ use crate::classes::Classes;
 use crate::roles::{Role, own_index, roles};
 use crate::rows::entry_at;
 use cil_model::memory::NoMemory;
-use name_tables::lookups::MemberNumber;
+use name_tables::ids::{ClassId, MethodId};
 use std::alloc::Global;
 
 /// The methods of one name and signature: the role of the first one of each class, by the classes' numbers.
@@ -21,9 +21,8 @@ pub struct MethodFamilies<'p> {
     ghost roles_are: { roles.items ≡ map (λ r. role_in identity r.methods) classes.now.all.now },
 }
 
-/// The slot that a method of a class fills over the one that it inherits. A slot is known by the number of the class that introduced
-/// it.
-fn slot_filled(class: usize, inherited: Option<usize>, role: Role) -> Option<usize>
+/// The slot that a method of a class fills over the one that it inherits. A slot is known by the class that introduced it.
+fn slot_filled(class: ClassId, inherited: Option<ClassId>, role: Role) -> Option<ClassId>
     ensures { result ≡ slot_by_role class inherited role }
 {
     match role {
@@ -33,23 +32,23 @@ fn slot_filled(class: usize, inherited: Option<usize>, role: Role) -> Option<usi
     }
 }
 
-fn is_slot(slot: Option<usize>, required: usize) -> bool
-    ensures { result ≡ option_map_or (λ s. s == required) slot false }
+fn is_slot(slot: &Option<ClassId>, required: ClassId) -> bool
+    ensures { result ≡ option_map_or (λ s. s == required) slot.now false }
 {
     match slot {
         None => false,
-        Some(number) => number == required,
+        Some(class) => *class == required,
     }
 }
 
-fn is_implementer(classes: &Classes, interface: usize, class: usize) -> bool
+fn is_implementer(classes: &Classes, interface: ClassId, class: ClassId) -> bool
     ensures { result ≡ is_implementer (map (λ r. r.interfaces) classes.now.all.now) interface class }
 {
     classes.interfaces(class).contains(&interface)
 }
 
 /// The nearest class of a chain that lists an interface itself.
-fn nearest_implementer(classes: &Classes, interface: usize, chain: &[usize]) -> Option<usize>
+fn nearest_implementer(classes: &Classes, interface: ClassId, chain: &[ClassId]) -> Option<ClassId>
     ensures { result ≡ find (is_implementer (map (λ r. r.interfaces) classes.now.all.now) interface) chain.now }
 {
     for class in chain {
@@ -75,7 +74,7 @@ impl<'p> MethodFamilies<'p> {
     }
 
     /// The role of the method of a class.
-    fn role(&self, class: usize) -> Option<Role>
+    fn role(&self, class: ClassId) -> Option<Role>
         ensures { result ≡ role_at self.now.classes.now.all.now self.now.identity class }
     {
         entry_at(self.roles.as_slice(), class)
@@ -84,7 +83,7 @@ impl<'p> MethodFamilies<'p> {
     // ---- slots along a chain
 
     /// The slot as seen from a class, where it is known as seen from its base.
-    fn slot_over(&self, class: usize, inherited: Option<usize>) -> Option<usize>
+    fn slot_over(&self, class: ClassId, inherited: Option<ClassId>) -> Option<ClassId>
         ensures { result ≡ slot_from self.now.classes.now.all.now self.now.identity class inherited }
     {
         match self.role(class) {
@@ -94,7 +93,7 @@ impl<'p> MethodFamilies<'p> {
     }
 
     /// The slot that the nearest of these methods along a chain fills.
-    fn slot_along(&self, chain: &[usize]) -> Option<usize>
+    fn slot_along(&self, chain: &[ClassId]) -> Option<ClassId>
         ensures { result ≡ slot_along self.now.classes.now.all.now self.now.identity chain.now }
     {
         let mut slot = None;
@@ -106,7 +105,12 @@ impl<'p> MethodFamilies<'p> {
 
     /// The nearest class whose method fills a slot as seen from a class, where it is known as seen from its base. `fills` says
     /// whether the class's own method fills that very slot.
-    fn implementation_over(&self, class: usize, fills: bool, below: Option<usize>) -> Option<usize>
+    fn implementation_over(
+        &self,
+        class: ClassId,
+        fills: bool,
+        below: Option<ClassId>,
+    ) -> Option<ClassId>
         ensures { result ≡ implementation_from self.now.classes.now.all.now self.now.identity class fills below }
     {
         if !fills {
@@ -119,7 +123,7 @@ impl<'p> MethodFamilies<'p> {
     }
 
     /// The nearest class of a chain whose method fills a slot.
-    fn implementation_along(&self, chain: &[usize], required: usize) -> Option<usize>
+    fn implementation_along(&self, chain: &[ClassId], required: ClassId) -> Option<ClassId>
         ensures { result ≡ implementation_along self.now.classes.now.all.now self.now.identity required chain.now }
     {
         let mut slot = None;
@@ -128,7 +132,7 @@ impl<'p> MethodFamilies<'p> {
             slot = self.slot_over(chain[index], slot);
             implementation = self.implementation_over(
                 chain[index],
-                is_slot(slot, required),
+                is_slot(&slot, required),
                 implementation,
             );
         }
@@ -136,14 +140,14 @@ impl<'p> MethodFamilies<'p> {
     }
 
     /// The method that a class declares for its objects.
-    fn own_method(&self, class: usize) -> Option<MemberNumber>
+    fn own_method(&self, class: ClassId) -> Option<MethodId>
         ensures { result ≡ own_at self.now.classes.now.all.now self.now.identity class }
     {
-        match self.classes.all.get(class) {
+        match self.classes.all.get(class.number()) {
             None => None,
             Some(resolved) => match own_index(resolved.methods.as_slice(), self.identity) {
                 None => None,
-                Some(index) => Some(MemberNumber { class, index }),
+                Some(index) => Some(MethodId { class, index }),
             },
         }
     }
@@ -151,9 +155,9 @@ impl<'p> MethodFamilies<'p> {
     /// The method that fills along one chain the slot that is known along another.
     pub fn class_implementation(
         &self,
-        chain: &[usize],
-        introduced: &[usize],
-    ) -> Option<MemberNumber>
+        chain: &[ClassId],
+        introduced: &[ClassId],
+    ) -> Option<MethodId>
         ensures { result ≡ filled_along self.now.classes.now.all.now self.now.identity chain.now introduced.now }
     {
         let slot = self.slot_along(introduced)?;
@@ -163,8 +167,8 @@ impl<'p> MethodFamilies<'p> {
 
     // ---- interfaces
 
-    /// Whether the class of a number has a virtual one.
-    fn has_virtual(&self, class: usize) -> bool
+    /// Whether a class has a virtual one.
+    fn has_virtual(&self, class: ClassId) -> bool
         ensures { result ≡ is_virtual_at self.now.classes.now.all.now self.now.identity class }
     {
         match self.role(class) {
@@ -174,7 +178,7 @@ impl<'p> MethodFamilies<'p> {
     }
 
     /// The nearest class of a chain with a virtual one.
-    fn nearest_virtual(&self, chain: &[usize]) -> Option<usize>
+    fn nearest_virtual(&self, chain: &[ClassId]) -> Option<ClassId>
         ensures { result ≡ find (is_virtual_at self.now.classes.now.all.now self.now.identity) chain.now }
     {
         for class in chain {
@@ -188,9 +192,9 @@ impl<'p> MethodFamilies<'p> {
     /// The method that fills the slot of the nearest virtual one, as seen from the nearest class of a chain that lists the interface.
     pub fn interface_implementation(
         &self,
-        chain: &[usize],
-        interface: usize,
-    ) -> Option<MemberNumber>
+        chain: &[ClassId],
+        interface: ClassId,
+    ) -> Option<MethodId>
         ensures { result ≡ listed_implementation self.now.classes.now.program.now self.now.classes.now.all.now self.now.identity chain.now interface }
     {
         let implementer = nearest_implementer(self.classes, interface, chain)?;

@@ -10,6 +10,7 @@ use crate::classes::Classes;
 use crate::kinds::SlotKind;
 use crate::rows::row_at;
 use cil_model::memory::NoMemory;
+use name_tables::ids::ClassId;
 use resolved_code::classes::ResolvedField;
 use std::alloc::Global;
 
@@ -69,7 +70,7 @@ fn statics_after(first: usize, fields: &[ResolvedField]) -> usize
 }
 
 /// The slot of the first instance field that a class itself declares: after those that it inherits.
-fn first_slot(own: &[Vec<SlotKind>], kinds: &[Vec<SlotKind>], class: usize) -> usize
+fn first_slot(own: &[Vec<SlotKind>], kinds: &[Vec<SlotKind>], class: ClassId) -> usize
     ensures following { result ≡ following_slot (map (λ row. row.items) kinds.now) (map (λ row. row.items) own.now) class }
     ensures fits { result + length (unwrap_or (slice_get (map (λ row. row.items) own.now) class) []) < 2 ^ 64 }
 {
@@ -94,7 +95,12 @@ pub fn all_fields(
     let mut next = 0;
     for class in 0..all.len() {
         let fields = all[class].fields.as_slice();
-        rows.push(field_row(alloc, next, first_slot(own, kinds, class), fields)?)?;
+        rows.push(field_row(
+            alloc,
+            next,
+            first_slot(own, kinds, ClassId::new(class)),
+            fields,
+        )?)?;
         next = statics_after(next, fields);
     }
     Ok(rows)

@@ -17,7 +17,7 @@ use crate::method_families::MethodFamilies;
 use crate::roles::is_virtual;
 use crate::rows::{entry_at, row_at};
 use cil_model::memory::NoMemory;
-use name_tables::lookups::MemberNumber;
+use name_tables::ids::{ClassId, MethodId};
 use resolved_code::classes::ResolvedMethod;
 use std::alloc::Global;
 
@@ -27,20 +27,20 @@ pub enum Targets {
     /// The method itself, on any object: it is not virtual.
     Itself,
     /// By the number of the object's class.
-    ByClass(Vec<Option<MemberNumber>>),
+    ByClass(Vec<Option<MethodId>>),
 }
 
-fn is_interface(classes: &Classes, class: usize) -> bool
+fn is_interface(classes: &Classes, class: ClassId) -> bool
     ensures { result ≡ option_map_or (λ r. r.is_interface) (slice_get classes.now.all.now class) false }
 {
-    match classes.all.get(class) {
+    match classes.all.get(class.number()) {
         None => false,
         Some(resolved) => resolved.is_interface,
     }
 }
 
 /// The method that runs where a virtual method of a class or interface is called on an object of a class.
-fn target_number(methods: &MethodFamilies, class: usize, object: usize) -> Option<MemberNumber>
+fn target_number(methods: &MethodFamilies, class: ClassId, object: ClassId) -> Option<MethodId>
     requires { AreResolved methods.now.classes.now.program.now methods.now.classes.now.all.now }
     ensures { (k : MethodIdentity) (e d : ClassName × Declaration) → identity_number methods.now.classes.now.program.now k ≡ methods.now.identity →
         slice_get (declarations methods.now.classes.now.program.now) class ≡ Some e → slice_get (declarations methods.now.classes.now.program.now) object ≡ Some d → result ≡ target_number methods.now.classes.now.program.now e.0 k d.0 }
@@ -57,15 +57,15 @@ fn target_number(methods: &MethodFamilies, class: usize, object: usize) -> Optio
 fn named_row(
     alloc: Global,
     methods: &MethodFamilies,
-    class: usize,
-) -> Result<Vec<Option<MemberNumber>>, NoMemory>
+    class: ClassId,
+) -> Result<Vec<Option<MethodId>>, NoMemory>
     requires { AreResolved methods.now.classes.now.program.now methods.now.classes.now.all.now }
     ensures { IfOk result (λ v. (k : MethodIdentity) (e : ClassName × Declaration) → identity_number methods.now.classes.now.program.now k ≡ methods.now.identity →
         slice_get (declarations methods.now.classes.now.program.now) class ≡ Some e → v.items ≡ by_class methods.now.classes.now.program.now (target_number methods.now.classes.now.program.now e.0 k)) }
 {
     let mut row = Vec::new(alloc);
     for object in 0..methods.classes.count() {
-        row.push(target_number(methods, class, object))?;
+        row.push(target_number(methods, class, ClassId::new(object)))?;
     }
     Ok(row)
 }
@@ -73,9 +73,9 @@ fn named_row(
 fn class_row(
     alloc: Global,
     classes: &Classes,
-    class: usize,
+    class: ClassId,
     method: &ResolvedMethod,
-) -> Result<Vec<Option<MemberNumber>>, NoMemory>
+) -> Result<Vec<Option<MethodId>>, NoMemory>
     requires { AreResolved classes.now.program.now classes.now.all.now }
     ensures { IfOk result (λ v. (e : ClassName × Declaration) (m : Method) → slice_get (declarations classes.now.program.now) class ≡ Some e →
         IsResolvedMethod classes.now.program.now m method.now → v.items ≡ by_class classes.now.program.now (target_number classes.now.program.now e.0 (identity_of m))) }
@@ -87,7 +87,7 @@ fn class_row(
 fn method_targets(
     alloc: Global,
     classes: &Classes,
-    class: usize,
+    class: ClassId,
     method: &ResolvedMethod,
 ) -> Result<Targets, NoMemory>
     requires { AreResolved classes.now.program.now classes.now.all.now }
@@ -105,7 +105,7 @@ fn method_targets(
 fn rows_of(
     alloc: Global,
     classes: &Classes,
-    class: usize,
+    class: ClassId,
     methods: &[ResolvedMethod],
 ) -> Result<Vec<Targets>, NoMemory>
     requires { AreResolved classes.now.program.now classes.now.all.now }
@@ -127,13 +127,14 @@ pub fn all_targets(alloc: Global, classes: &Classes) -> Result<Vec<Vec<Targets>>
     let all = classes.all;
     let mut rows = Vec::new(alloc);
     for class in 0..all.len() {
-        rows.push(rows_of(alloc, classes, class, all[class].methods.as_slice())?)?;
+        let methods = all[class].methods.as_slice();
+        rows.push(rows_of(alloc, classes, ClassId::new(class), methods)?)?;
     }
     Ok(rows)
 }
 
 /// The method that runs where a method is called on an object of a class.
-pub fn target_at(rows: &[Vec<Targets>], class: usize, method: MemberNumber) -> Option<MemberNumber>
+pub fn target_at(rows: &[Vec<Targets>], class: ClassId, method: MethodId) -> Option<MethodId>
     ensures { result ≡ option_and_then (target_in class method) (option_map targets_of (slice_get (unwrap_or (slice_get (map (λ row. row.items) rows.now) method.class) []) method.index)) }
 {
     match row_at(rows, method.class).get(method.index) {

@@ -6,6 +6,7 @@ ghost use Rattle.class_layout.specs.Laid.{IsLayout};
 ghost use Rattle.collector.specs.References.{holds_reference, is_reference_element};
 
 use class_layout::Layout;
+use name_tables::ids::ClassId;
 use object_memory::{ArrayElement, ElementType, Kind};
 
 /// Whether a slot of an object holds a reference. False where no class of the program has the object's number.
@@ -13,7 +14,10 @@ pub(crate) fn holds_reference(layout: &Layout, kind: Kind, slot: u32) -> bool
     ensures { (tree : Tree) → IsLayout tree layout.now → result ≡ holds_reference tree kind slot }
 {
     match kind {
-        Kind::Instance(class) => layout.is_reference(usize::from(class), slot as usize),
+        Kind::Instance(class) => layout.is_reference(
+            ClassId::new(usize::from(class)),
+            slot as usize,
+        ),
         Kind::Array(array) => is_reference_element(array),
     }
 }

@@ -358,7 +358,7 @@ fn replay_command<'a>(alloc: Global) -> Result<Command<'a>, AllocError>
         alloc,
         "replay",
         "Runs a source by a schedule that a file holds",
-        "The file has the events in the form that 'cilvm run --help' tells, on as many lines as you like. Where a file SCHEDULE.run is beside it, as 'cilvm threads --record' writes one, it has the limits of the recorded run, and another source, other limits or another output are reported, with status 6.\n\nExample, which prints 5:\n  cilvm replay examples/add.il examples/add.schedule",
+        "The file has the events in the form that 'cilvm run --help' describes, on as many lines as you like. Where a file SCHEDULE.run is beside it, as 'cilvm threads --record' writes one, it has the limits of the recorded run, and another source, other limits or another output are reported, with status 6.\n\nExample, which prints 5:\n  cilvm replay examples/add.il examples/add.schedule",
     );
     let command = with_output(alloc, command);
     let command = with_explain(alloc, with_stats(alloc, command), EXPLAIN_RUN);

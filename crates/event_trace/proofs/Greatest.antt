@@ -6,7 +6,7 @@ use Rattle.interleaving_core.specs.simulation.reference_machine.Blocking.{HasEnd
 use Rattle.interleaving_core.specs.simulation.Counts.{IsCountedMonitor}
 use Rattle.event_trace.proofs.Names.{length-replicate, same_Some, slice_get_within, not_both, Held, HeapObject, StateThread, State, is_live_thread, Born, Literal, StateWait, ForMonitor, ForEnd, wait_of, IsTrueWait, waits_truly, waiting_lives, is_live_at, MachineState, IsThread, Represents, wait_at, Wait, Monitor, Join, agree_length, lives_alike, after_round, is_held_up, is_in, stays}
 use Rattle.event_trace.specs.Deadlocks.{IsDeadlockOf}
-use Rattle.event_trace.proofs.Agreeing.{AreWaitsAlike, IsWaitAlike, waits_alike}
+use Rattle.event_trace.proofs.WaitsAlike.{AreWaitsAlike, IsWaitAlike, waits_alike}
 use Rattle.event_trace.proofs.RoundLaws.{count, count_within, in_is, is_in_truly, passing_at, passing_length, same_or_less}
 
 no_start : (t : ℕ) → 0 + t ≡ t

@@ -3,9 +3,9 @@ pub mod PositionLaws
 pub mod TraceLaws
 pub mod ColumnLaws
 pub mod EndLaws
-pub mod Agreeing
+pub mod WaitsAlike
 pub mod Classes
-pub mod Counting
+pub mod ThreadSets
 pub mod RoundLaws
 pub mod Greatest
 mod Names

@@ -1,13 +1,13 @@
 pub use Rattle.interleaving_core.proofs as interleaving_core
 pub use Rattle.interleaving_core.proofs.simulation as simulation
-pub mod Settling
-pub mod Stepping
-pub mod Covering
-pub mod Running
-pub mod Showing
-pub mod Local
+pub mod ChargedSteps
+pub mod LaggingSteps
+pub mod LagTransitivity
+pub mod CoveredRuns
+pub mod CoveredStates
+pub mod LocalProgress
 pub mod Paths
 pub mod CheckedSteps
-pub mod Going
-pub mod Begins
+pub mod LentFrameProgress
+pub mod SamePrograms
 mod Names

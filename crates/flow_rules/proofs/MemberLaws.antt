@@ -29,7 +29,8 @@ use Rattle.cil_model.specs.Chains.{is_abstract_method}
 use Rattle.cil_model.specs.FlowRules.{is_concrete}
 use Rattle.cil_model.specs.Declarations.{declaration_of}
 use Rattle.cil_model.specs.Legality.{IsLegal}
-use Rattle.name_tables.specs.declared.lookups.MemberNumber.{MemberNumber}
+use Rattle.name_tables.specs.declared.ids.FieldId.{FieldId}
+use Rattle.name_tables.specs.declared.ids.MethodId.{MethodId}
 use Rattle.resolved_code.specs.Resolved.{IsField, IsMethod, IsResolvedField, IsResolvedKind, IsResolvedMethod}
 use Rattle.resolved_code.specs.declared.classes.ResolvedField.{ResolvedField}
 use Rattle.resolved_code.specs.declared.classes.ResolvedKind.{ResolvedKind}
@@ -88,19 +89,19 @@ module _ (tree : Tree) where
 
   -- ---- fields and methods that references find
 
-  pub field_there : (b : Bool) (r : FieldReference) (f : MemberNumber) (k : ResolvedClass) (x : ResolvedField) → IsField tree b r f → IsClassAt tree f.class k → slice_get k.fields f.index ≡ Some x → type_named tree x.field_type ≡ r.field_type
+  pub field_there : (b : Bool) (r : FieldReference) (f : FieldId) (k : ResolvedClass) (x : ResolvedField) → IsField tree b r f → IsClassAt tree f.class k → slice_get k.fields f.index ≡ Some x → type_named tree x.field_type ≡ r.field_type
   field_there b r f k x is (name, d, at, alike) e =
       let member : (slice_get d.fields f.index ≡ Some is.found) × (name ≡ is.declared_in) = member_of_class (λ y. y.fields) f.class f.index is.declared_in name d is.found at is.has_id in
       let field : AlikeTo (IsResolvedField tree) d.fields f.index x = alike_to (IsResolvedField tree) d.fields k.fields f.index x alike.fields e in
       let same : field.item ≡ is.found = same_Some field.item is.found (sym field.there ∙ member.0) in
       type_is_named tree x.field_type field.item.field_type field.alike.field_type ∙ ap (λ (y : Field). y.field_type) same ∙ field_has_type b r is.declared_in is.found is.finds
 
-  pub field_lacks : (b : Bool) (r : FieldReference) (f : MemberNumber) (k : ResolvedClass) → IsField tree b r f → IsClassAt tree f.class k → slice_get k.fields f.index ≡ None → ⊥
+  pub field_lacks : (b : Bool) (r : FieldReference) (f : FieldId) (k : ResolvedClass) → IsField tree b r f → IsClassAt tree f.class k → slice_get k.fields f.index ≡ None → ⊥
   field_lacks b r f k is (name, d, at, alike) e =
       let member : (slice_get d.fields f.index ≡ Some is.found) × (name ≡ is.declared_in) = member_of_class (λ y. y.fields) f.class f.index is.declared_in name d is.found at is.has_id in
       none_is_some is.found (sym (alike_beyond (IsResolvedField tree) d.fields k.fields alike.fields f.index e) ∙ member.0)
 
-  pub field_nowhere : (b : Bool) (r : FieldReference) (f : MemberNumber) → IsField tree b r f → class_name tree f.class ≡ None → ⊥
+  pub field_nowhere : (b : Bool) (r : FieldReference) (f : FieldId) → IsField tree b r f → class_name tree f.class ≡ None → ⊥
   field_nowhere b r f is none = member_nowhere (λ y. y.fields) f.class f.index is.declared_in is.found none is.has_id
 
   is_abstract_too : (named : MethodKind) (resolved : ResolvedKind) → IsResolvedKind tree named resolved → is_abstract_kind resolved ≡ is_abstract_method named
@@ -121,7 +122,7 @@ module _ (tree : Tree) where
   is_abstract_too (NamedKind.Abstract s) (KindOf.Instance body) h = absurd h
   is_abstract_too (NamedKind.Abstract s) (KindOf.Virtual t body) h = absurd h
 
-  pub method_there : (b : Bool) (r : MethodReference) (f : MemberNumber) (k : ResolvedClass) (x : ResolvedMethod) (is : IsMethod tree b r f) → IsClassAt tree f.class k → slice_get k.methods f.index ≡ Some x → IsCallable tree r.signature is.found x
+  pub method_there : (b : Bool) (r : MethodReference) (f : MethodId) (k : ResolvedClass) (x : ResolvedMethod) (is : IsMethod tree b r f) → IsClassAt tree f.class k → slice_get k.methods f.index ≡ Some x → IsCallable tree r.signature is.found x
   method_there b r f k x is (name, d, at, alike) e =
       let member : (slice_get d.methods f.index ≡ Some is.found) × (name ≡ is.declared_in) = member_of_class (λ y. y.methods) f.class f.index is.declared_in name d is.found at is.has_id in
       let method : AlikeTo (IsResolvedMethod tree) d.methods f.index x = alike_to (IsResolvedMethod tree) d.methods k.methods f.index x alike.methods e in
@@ -133,16 +134,16 @@ module _ (tree : Tree) where
         is_abstract = is_abstract_too method.item.kind x.kind method.alike.kind ∙ ap (λ (y : Method). is_abstract_method y.kind) same;
       }
 
-  pub method_lacks : (b : Bool) (r : MethodReference) (f : MemberNumber) (k : ResolvedClass) → IsMethod tree b r f → IsClassAt tree f.class k → slice_get k.methods f.index ≡ None → ⊥
+  pub method_lacks : (b : Bool) (r : MethodReference) (f : MethodId) (k : ResolvedClass) → IsMethod tree b r f → IsClassAt tree f.class k → slice_get k.methods f.index ≡ None → ⊥
   method_lacks b r f k is (name, d, at, alike) e =
       let member : (slice_get d.methods f.index ≡ Some is.found) × (name ≡ is.declared_in) = member_of_class (λ y. y.methods) f.class f.index is.declared_in name d is.found at is.has_id in
       none_is_some is.found (sym (alike_beyond (IsResolvedMethod tree) d.methods k.methods alike.methods f.index e) ∙ member.0)
 
-  pub method_nowhere : (b : Bool) (r : MethodReference) (f : MemberNumber) → IsMethod tree b r f → class_name tree f.class ≡ None → ⊥
+  pub method_nowhere : (b : Bool) (r : MethodReference) (f : MethodId) → IsMethod tree b r f → class_name tree f.class ≡ None → ⊥
   method_nowhere b r f is none = member_nowhere (λ y. y.methods) f.class f.index is.declared_in is.found none is.has_id
 
   -- a constructor is of the class that it is looked for in
-  pub constructor_owner : (c : ClassName) (ps : List DeclaredType) (f : MemberNumber) → IsMethod tree true (constructor_reference c ps) f → class_name tree f.class ≡ Some c
+  pub constructor_owner : (c : ClassName) (ps : List DeclaredType) (f : MethodId) → IsMethod tree true (constructor_reference c ps) f → class_name tree f.class ≡ Some c
   constructor_owner c ps f is =
       let owner : is.declared_in ≡ c = alone (find tested (methods_declared tree c)) is.finds in
       by_entry (slice_get (declarations tree) f.class) refl is.has_id owner

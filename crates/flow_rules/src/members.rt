@@ -12,9 +12,11 @@ ghost use Rattle.cil_model.specs.Assignable.{type_of_class};
 ghost use Rattle.cil_model.specs.Bodies.{constructor_reference, virtual_reference};
 ghost use Rattle.cil_model.specs.TypeTree as OnStack;
 ghost use Rattle.cil_model.specs.FlowRules.{take_operands, give, is_concrete};
+ghost use Rattle.cil_model.specs.Legality.{IsLegal};
 ghost use Rattle.resolved_code.specs.ById.{class_name};
 ghost use Rattle.resolved_code.specs.Resolved.{IsField, IsMethod};
 ghost use Rattle.flow_rules.specs.Flow.{IsAfter, flow_of};
+ghost use Rattle.flow_rules.specs.Merging.{IsClassAt};
 ghost use Rattle.flow_rules.specs.Members.{GivesType, IsCallable, is_abstract_kind, operands_named};
 ghost use Rattle.flow_rules.specs.Named.{stack_types, type_named, types_named};
 
@@ -25,37 +27,46 @@ use crate::operators::put;
 use crate::type_stack::TypeStack;
 use crate::type_tree::{TypeTree, item_at, type_of_class};
 use crate::variables::{give, take_fitting, take_operands};
-use name_tables::lookups::MemberNumber;
-use resolved_code::classes::{ResolvedKind, ResolvedMethod};
+use name_tables::ids::{ClassId, FieldId, MethodId};
+use resolved_code::classes::{ResolvedClass, ResolvedKind, ResolvedMethod};
 use resolved_code::types::ResolvedType;
 
-fn no_such_member(number: MemberNumber) -> FlowError {
-    FlowError::Mismatch(Mismatch::NoSuchMember(number))
+/// The class of an id.
+fn class_of<'a>(types: &'a TypeTree, id: ClassId) -> Option<&'a ResolvedClass>
+    ensures found { IfSome result (λ class. IsClassAt types.now id class.now) }
+    ensures beyond { result ≡ None → class_name types.now id ≡ None }
+    ensures legal { IsLegal types.now }
+{
+    types.class(id.number())
+}
+
+fn no_such_member() -> FlowError {
+    FlowError::Mismatch(Mismatch::NoSuchMember)
 }
 
 /// The type of the field that a reference finds (ECMA-335 II.16).
-fn field_type(types: &TypeTree, number: MemberNumber) -> Result<ResolvedType, FlowError>
-    ensures { (is_static : Bool) (r : FieldReference) → IsField types.now is_static r number → GivesType types.now result r.field_type }
+fn field_type(types: &TypeTree, id: FieldId) -> Result<ResolvedType, FlowError>
+    ensures { (is_static : Bool) (r : FieldReference) → IsField types.now is_static r id → GivesType types.now result r.field_type }
 {
-    let Some(class) = types.class(number.class) else {
-        return Err(no_such_member(number));
+    let Some(class) = class_of(types, id.class) else {
+        return Err(no_such_member());
     };
-    match item_at(class.fields.as_slice(), number.index) {
-        None => Err(no_such_member(number)),
+    match item_at(class.fields.as_slice(), id.index) {
+        None => Err(no_such_member()),
         Some(field) => Ok(field.field_type),
     }
 }
 
 /// The method that a reference finds (ECMA-335 II.15.1.3).
-fn method_at<'a>(types: &'a TypeTree, number: MemberNumber) -> Result<&'a ResolvedMethod, FlowError>
-    ensures found { IfOk result (λ method. (is_instance : Bool) (r : MethodReference) (is : IsMethod types.now is_instance r number) → IsCallable types.now r.signature is.found method.now) }
-    ensures absent { IfErr result (λ _. (is_instance : Bool) (r : MethodReference) → IsMethod types.now is_instance r number → ⊥) }
+fn method_at<'a>(types: &'a TypeTree, id: MethodId) -> Result<&'a ResolvedMethod, FlowError>
+    ensures found { IfOk result (λ method. (is_instance : Bool) (r : MethodReference) (is : IsMethod types.now is_instance r id) → IsCallable types.now r.signature is.found method.now) }
+    ensures absent { IfErr result (λ _. (is_instance : Bool) (r : MethodReference) → IsMethod types.now is_instance r id → ⊥) }
 {
-    let Some(class) = types.class(number.class) else {
-        return Err(no_such_member(number));
+    let Some(class) = class_of(types, id.class) else {
+        return Err(no_such_member());
     };
-    match item_at(class.methods.as_slice(), number.index) {
-        None => Err(no_such_member(number)),
+    match item_at(class.methods.as_slice(), id.index) {
+        None => Err(no_such_member()),
         Some(method) => Ok(method),
     }
 }
@@ -63,8 +74,8 @@ fn method_at<'a>(types: &'a TypeTree, number: MemberNumber) -> Result<&'a Resolv
 /// `ldfld`: the class that the text names, and the field that is found.
 pub fn load_field(
     method: &MethodTypes,
-    owner: usize,
-    field: MemberNumber,
+    owner: ClassId,
+    field: FieldId,
     stack: &mut TypeStack,
 ) -> Result<(), FlowError>
     ensures { (r : FieldReference) → class_name method.now.types.now owner ≡ Some r.owner → IsField method.now.types.now false r field → IsAfter method.now.types.now result stack.new (flow_of method.now (Named.LoadField r) stack.old) }
@@ -77,8 +88,8 @@ pub fn load_field(
 /// `stfld`
 pub fn store_field(
     method: &MethodTypes,
-    owner: usize,
-    field: MemberNumber,
+    owner: ClassId,
+    field: FieldId,
     stack: &mut TypeStack,
 ) -> Result<(), FlowError>
     ensures { (r : FieldReference) → class_name method.now.types.now owner ≡ Some r.owner → IsField method.now.types.now false r field → IsAfter method.now.types.now result stack.new (flow_of method.now (Named.StoreField r) stack.old) }
@@ -91,7 +102,7 @@ pub fn store_field(
 /// `ldsfld`
 pub fn load_static_field(
     method: &MethodTypes,
-    field: MemberNumber,
+    field: FieldId,
     stack: &mut TypeStack,
 ) -> Result<(), FlowError>
     ensures { (r : FieldReference) → IsField method.now.types.now true r field → IsAfter method.now.types.now result stack.new (flow_of method.now (Named.LoadStaticField r) stack.old) }
@@ -103,7 +114,7 @@ pub fn load_static_field(
 /// `stsfld`
 pub fn store_static_field(
     method: &MethodTypes,
-    field: MemberNumber,
+    field: FieldId,
     stack: &mut TypeStack,
 ) -> Result<(), FlowError>
     ensures { (r : FieldReference) → IsField method.now.types.now true r field → IsAfter method.now.types.now result stack.new (flow_of method.now (Named.StoreStaticField r) stack.old) }
@@ -154,7 +165,7 @@ fn call_found(
 }
 
 /// The type of the object that a call is made on, where it is an instance's.
-fn owner_type(is_instance: bool, owner: usize) -> Option<ResolvedType>
+fn owner_type(is_instance: bool, owner: ClassId) -> Option<ResolvedType>
     ensures { (tree : Tree) (c : ClassName) → class_name tree owner ≡ Some c → option_map (type_named tree) result ≡ if is_instance then Some (type_of_class c) else None }
 {
     if is_instance {
@@ -168,15 +179,16 @@ fn owner_type(is_instance: bool, owner: usize) -> Option<ResolvedType>
 pub fn call(
     method: &MethodTypes,
     is_instance: bool,
-    owner: usize,
-    number: MemberNumber,
+    owner: ClassId,
+    id: MethodId,
     stack: &mut TypeStack,
 ) -> Result<(), FlowError>
-    ensures { (r : MethodReference) → class_name method.now.types.now owner ≡ Some r.owner → IsMethod method.now.types.now is_instance r number → IsAfter method.now.types.now result stack.new (flow_of method.now (Named.Call is_instance r) stack.old) }
+    ensures { (r : MethodReference) → class_name method.now.types.now owner ≡ Some r.owner → IsMethod method.now.types.now is_instance r id → IsAfter method.now.types.now result stack.new (flow_of method.now (Named.Call is_instance r) stack.old) }
 {
-    let called = method_at(method.types, number)?;
+    let declaring = id.class;
+    let called = method_at(method.types, id)?;
     if is_abstract(&called.kind) {
-        return Err(FlowError::Mismatch(Mismatch::AbstractMethod(number)));
+        return Err(FlowError::Mismatch(Mismatch::AbstractMethod(declaring.number())));
     }
     call_found(method.types, owner_type(is_instance, owner), called, stack)
 }
@@ -184,22 +196,22 @@ pub fn call(
 /// `callvirt`
 pub fn call_virtual(
     method: &MethodTypes,
-    owner: usize,
-    number: MemberNumber,
+    owner: ClassId,
+    id: MethodId,
     stack: &mut TypeStack,
 ) -> Result<(), FlowError>
-    ensures { (c : ClassName) (name : List ℕ) (signature : Signature) → class_name method.now.types.now owner ≡ Some c → IsMethod method.now.types.now true (virtual_reference c name signature) number →
+    ensures { (c : ClassName) (name : List ℕ) (signature : Signature) → class_name method.now.types.now owner ≡ Some c → IsMethod method.now.types.now true (virtual_reference c name signature) id →
         IsAfter method.now.types.now result stack.new (flow_of method.now (Named.CallVirtual c name signature) stack.old) }
 {
-    let called = method_at(method.types, number)?;
+    let called = method_at(method.types, id)?;
     call_found(method.types, owner_type(true, owner), called, stack)
 }
 
 /// A class of which `newobj` makes objects.
-fn is_concrete(types: &TypeTree, number: usize) -> bool
-    ensures { (c : ClassName) → class_name types.now number ≡ Some c → result ≡ is_concrete types.now c }
+fn is_concrete(types: &TypeTree, id: ClassId) -> bool
+    ensures { (c : ClassName) → class_name types.now id ≡ Some c → result ≡ is_concrete types.now c }
 {
-    match types.class(number) {
+    match class_of(types, id) {
         None => false,
         Some(class) => !class.is_abstract,
     }
@@ -221,16 +233,17 @@ fn construct(
 /// `newobj`: the constructor, which its own class declares.
 pub fn new_object(
     method: &MethodTypes,
-    number: MemberNumber,
+    id: MethodId,
     stack: &mut TypeStack,
 ) -> Result<(), FlowError>
-    ensures { (c : ClassName) (parameters : List DeclaredType) → IsMethod method.now.types.now true (constructor_reference c parameters) number →
+    ensures { (c : ClassName) (parameters : List DeclaredType) → IsMethod method.now.types.now true (constructor_reference c parameters) id →
         IsAfter method.now.types.now result stack.new (flow_of method.now (Named.NewObject c parameters) stack.old) }
 {
-    let constructor = method_at(method.types, number)?;
-    if is_concrete(method.types, number.class) {
-        let object = type_of_class(number.class);
+    let class = id.class;
+    let constructor = method_at(method.types, id)?;
+    if is_concrete(method.types, class) {
+        let object = type_of_class(class);
         return construct(method.types, object, constructor, stack);
     }
-    Err(FlowError::Mismatch(Mismatch::AbstractClass(number.class)))
+    Err(FlowError::Mismatch(Mismatch::AbstractClass(class.number())))
 }

@@ -2,7 +2,6 @@
 
 use crate::entries::StackEntry;
 use cil_model::memory::NoMemory;
-use name_tables::lookups::MemberNumber;
 use resolved_code::types::ResolvedType;
 
 /// Why an instruction is not allowed on a stack (ECMA-335 III.1.8 and the verifiability parts of III.3 and III.4).
@@ -20,11 +19,11 @@ pub enum Mismatch {
     NoSuchVariable(i64),
     /// `castclass` and `isinst` take no such type.
     NoReference(ResolvedType),
-    /// The code names no member by this number.
-    NoSuchMember(MemberNumber),
-    /// `call` of a method without code.
-    AbstractMethod(MemberNumber),
-    /// `newobj` of an abstract class.
+    /// The code names a member that is not there.
+    NoSuchMember,
+    /// `call` of a method without code of the class with this number.
+    AbstractMethod(usize),
+    /// `newobj` of the abstract class with this number.
     AbstractClass(usize),
     /// `ret` leaves this below what it returns.
     LeftOnStack(StackEntry),

@@ -20,6 +20,7 @@ use crate::entries::{StackEntry, is_reference};
 use crate::lines::Lines;
 use cil_model::memory::NoMemory;
 use cil_model::trees::Tree;
+use name_tables::ids::{ClassId, OBJECT, STRING};
 use resolved_code::classes::ResolvedClass;
 use resolved_code::type_tests::TypeTest;
 use resolved_code::types::{ResolvedElement, ResolvedType};
@@ -363,7 +364,7 @@ impl<'a> TypeTree<'a> {
             }
             match class.base {
                 None => return false,
-                Some(base) => here = base,
+                Some(base) => here = base.number(),
             }
         }
         false
@@ -412,7 +413,8 @@ pub(crate) fn item_at<T>(items: &[T], index: usize) -> Option<&T>
 fn is_or_lists(number: usize, class: &ResolvedClass, required: usize) -> bool
     ensures { result ≡ (number == required) || list_any (λ i. i == required) class.now.interfaces }
 {
-    number == required || class.interfaces.as_slice().contains(&required)
+    let interfaces = class.interfaces.as_slice();
+    number == required || interfaces.contains(&ClassId::new(required))
 }
 
 /// Null lies below every reference, and below no other type.
@@ -474,25 +476,25 @@ fn parent_of_array(t: ResolvedType) -> Option<ResolvedType>
 }
 
 /// The element of a class's objects: `object` and `string` have names of their own (ECMA-335 II.7.2).
-pub fn element_of_class(number: usize) -> ResolvedElement
-    ensures named { (tree : Tree) → is_known tree (Class number) ≡ true → element_named tree result ≡ element_of_class (class_named tree number) }
-    ensures known { (tree : Tree) → is_known tree (Class number) ≡ true → is_known tree result ≡ true }
+pub fn element_of_class(class: ClassId) -> ResolvedElement
+    ensures named { (tree : Tree) → is_known tree (Class class) ≡ true → element_named tree result ≡ element_of_class (class_named tree class) }
+    ensures known { (tree : Tree) → is_known tree (Class class) ≡ true → is_known tree result ≡ true }
 {
-    if number == 0 {
+    if class == OBJECT {
         ResolvedElement::Object
-    } else if number == 1 {
+    } else if class == STRING {
         ResolvedElement::String
     } else {
-        ResolvedElement::Class(number)
+        ResolvedElement::Class(class.number())
     }
 }
 
 /// The type of a class's objects (ECMA-335 II.7.2).
-pub fn type_of_class(number: usize) -> ResolvedType
-    ensures { (tree : Tree) (c : ClassName) → class_name tree number ≡ Some c → type_named tree result ≡ type_of_class c }
+pub fn type_of_class(class: ClassId) -> ResolvedType
+    ensures { (tree : Tree) (c : ClassName) → class_name tree class ≡ Some c → type_named tree result ≡ type_of_class c }
 {
     ResolvedType {
-        element: element_of_class(number),
+        element: element_of_class(class),
         brackets: 0,
     }
 }

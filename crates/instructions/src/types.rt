@@ -9,6 +9,7 @@ ghost use Rattle.instructions.specs.TypeTransitions.{resolved_element, type_of_k
 
 use class_layout::Layout;
 use flow_rules::type_tree::element_of_class;
+use name_tables::ids::ClassId;
 use object_memory::{Addr, ElementType, Heap, Kind, Value};
 use resolved_code::Program;
 use resolved_code::types::{ResolvedElement, ResolvedType};
@@ -32,7 +33,7 @@ fn type_of_kind(kind: Kind) -> ResolvedType
 {
     match kind {
         Kind::Instance(class) => ResolvedType {
-            element: element_of_class(usize::from(class)),
+            element: element_of_class(ClassId::new(usize::from(class))),
             brackets: 0,
         },
         Kind::Array(array) => ResolvedType {

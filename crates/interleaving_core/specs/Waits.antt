@@ -4,7 +4,7 @@ use Rattle.cil_model.specs.declared.trees.Line.{Line}
 use Rattle.cil_model.specs.declared.trees.Tree.{Tree}
 use Rattle.reference_machine.specs.BuiltIn.{Action, Enter, Join as JoinAction}
 use Rattle.simulation.specs.reference_machine.Waits.{called_action}
-use Rattle.name_tables.specs.declared.lookups.MemberNumber.{MemberNumber}
+use Rattle.name_tables.specs.declared.ids.MethodId.{MethodId}
 use Rattle.resolved_code.specs.declared.operations.Operation.{Operation}
 use Rattle.resolved_code.specs.declared.operations.Operation.TheVariants.{Call, CallVirtual}
 use Rattle.object_memory.specs.declared.addresses.Addr.{Addr}
@@ -25,7 +25,7 @@ use Rattle.interleaving_core.specs.declared.waits.Wait.{Wait}
 use Rattle.interleaving_core.specs.declared.waits.Wait.TheVariants.{Monitor, Join}
 
 -- the method that a resolved instruction calls; none of one that is no call
-abbrev pub called_member : Operation → Option MemberNumber
+abbrev pub called_member : Operation → Option MethodId
 called_member (Call is_instance owner method) = Some method
 called_member (CallVirtual owner method) = Some method
 called_member _ = None

@@ -14,18 +14,17 @@ ghost use Rattle.simulation.specs.interpreter.Calls.{chosen_at};
 ghost use Rattle.threads_monitors.specs.Threads.{new_thread};
 
 use cil_model::limits::{Limits, MOST_ARGUMENTS, MOST_LOCALS, MOST_STACK};
-use name_tables::lookups::MemberNumber;
-use name_tables::numbers::THREAD;
+use name_tables::ids::{MethodId, THREAD};
 use object_memory::{Addr, Heap};
-use simulation::interpreter_code::calls::class_number;
+use simulation::interpreter_code::calls::class_id;
 use simulation::interpreter_code::loaded_code::LoadedProgram;
 use threads_monitors::ThreadStart;
 
 /// How many values a frame may hold: arguments, locals, the stack, and a new object beneath the operands of its constructor.
 pub(crate) const FRAME_ROOM: usize = MOST_ARGUMENTS + MOST_LOCALS + MOST_STACK as usize + 1;
 
-/// `Cilvm.Thread`'s `Run` by number: its second method.
-const RUN: MemberNumber = MemberNumber {
+/// `Cilvm.Thread`'s `Run`: its second method.
+const RUN: MethodId = MethodId {
     class: THREAD,
     index: 1,
 };
@@ -67,7 +66,7 @@ pub(crate) fn beginning_on<'a>(
 {
     // For the prover alone: it brings in that the program is legal.
     let _legal = program.program().tree();
-    let class = class_number(heap, object);
+    let class = class_id(heap, object);
     let method = program.target(program.number(RUN), class);
     beginning(program, limits, method)
 }

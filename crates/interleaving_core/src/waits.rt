@@ -1,21 +1,21 @@
 //! What threads wait for.
 
-ghost use Rattle.std.specs.Prelude.{◌≡◌, ◌≢◌, ◌<◌, ◌≤◌, IsSome, length, option_map, true};
+ghost use Rattle.std.specs.Prelude.{◌≡◌, ◌≢◌, ◌<◌, ◌≤◌, Some, IsSome, length, option_map, true};
 ghost use Rattle.cil_model.specs.declared.limits.TheConstants.{MOST_THREADS};
 ghost use Rattle.resolved_code.specs.declared.operations.Operation.{Operation as AnyOperation};
 ghost use Rattle.object_memory.specs.Cells.{null};
 ghost use Rattle.object_memory.specs.Objects.{monitor_at, object_slots};
 ghost use Rattle.simulation.specs.loaded_program.Prepared.{action_named};
-ghost use Rattle.simulation.specs.interpreter.Calls.{top_reference};
+ghost use Rattle.simulation.specs.interpreter.Calls.{class_at, top_reference};
 ghost use Rattle.simulation.specs.interpreter.Instructions.{IsAt, line_at};
 ghost use Rattle.interleaving_core.specs.Views.{machine_state_of};
 ghost use Rattle.interleaving_core.specs.Waits.{HasObject, action_at, called_member, join_wait, monitor_wait, wait_in};
 
 use crate::engine::Engine;
-use name_tables::lookups::MemberNumber;
+use name_tables::ids::MethodId;
 use object_memory::{Addr, Heap, Monitor, Value};
 use resolved_code::operations::Operation;
-use simulation::interpreter_code::calls::class_number;
+use simulation::interpreter_code::calls::class_id;
 use simulation::interpreter_code::fetch::operation_at;
 use simulation::interpreter_code::loaded_code::{Action, LoadedProgram};
 use threads_monitors::{FrameMemory, Thread, is_live, thread_on};
@@ -38,7 +38,7 @@ pub enum Wait {
 }
 
 /// The method that an instruction calls. None of an instruction that is no call.
-fn called_member(operation: &Operation) -> Option<MemberNumber>
+fn called_member(operation: &Operation) -> Option<MethodId>
     ensures { result ≡ called_member operation.now }
 {
     match operation {
@@ -68,6 +68,17 @@ pub(crate) fn top_reference(frames: &FrameMemory) -> Option<Addr>
     match frames.operand(0) {
         Value::Ref(address) => Some(address),
         _ => None,
+    }
+}
+
+/// The number of an object's class. None of an array.
+fn class_number(heap: &Heap, object: Addr) -> Option<usize>
+    requires { IsSome (class_at heap.now object) }
+    ensures { class_at heap.now object ≡ Some result }
+{
+    match class_id(heap, object) {
+        None => None,
+        Some(class) => Some(class.number()),
     }
 }
 

@@ -6,12 +6,12 @@ pub use Rattle.object_memory.proofs as object_memory
 pub use Rattle.loaded_program.proofs as loaded_program
 pub use Rattle.threads_monitors.proofs as threads_monitors
 pub use Rattle.instructions.proofs as instructions
-pub mod Running
-pub mod Receiving
-pub mod Placing
-pub mod Printing
-pub mod Linking
-pub mod Executing
+pub mod MethodsToRun
+pub mod VirtualReceivers
+pub mod ResolvedInstructions
+pub mod PrintedResults
+pub mod LinkedTransitions
+pub mod LinkedExecution
 pub mod LocalRules
 pub mod LocalKeeps
 pub mod LocalSteps

@@ -23,8 +23,8 @@ use Rattle.instructions.specs.LocalTransitions.{IsFaulty}
 use Rattle.interpreter.specs.declared.outcomes.InstructionOutcome.TheVariants.{OwnEffect}
 use Rattle.interpreter.specs.Instructions.{IsAt, IsDone, answer_of, link_of, linked_transition, of_frames, operation_transition}
 use Rattle.interpreter.specs.Local.{EndsLocal, IsLocalStep, IsNextLocal, IsReadySomewhere, alone, frames_over, is_local, is_local_link, local_link_transition}
-use Rattle.interpreter.proofs.Executing.{linked_here}
-use Rattle.interpreter.proofs.Linking.{link_does, link_is}
+use Rattle.interpreter.proofs.LinkedExecution.{linked_here}
+use Rattle.interpreter.proofs.LinkedTransitions.{link_does, link_is}
 use Rattle.interpreter.proofs.LocalKeeps.{local_keeps}
 use Rattle.interpreter.proofs.LocalRules.{local_is, local_moves, moved_transition}
 

@@ -9,8 +9,7 @@ use Rattle.cil_model.specs.declared.reports.Fault.TheVariants.{NullReference}
 use Rattle.cil_model.specs.Bodies.{argument_types}
 use Rattle.cil_model.specs.Mentions.{literals_of}
 use Rattle.reference_machine.specs.BuiltIn.{Action, Construct, Write, Enter, Exit, Start, Join, action_of}
-use Rattle.name_tables.specs.declared.lookups.MemberNumber.{MemberNumber}
-use Rattle.name_tables.specs.declared.numbers.TheConstants.{STRING}
+use Rattle.name_tables.specs.declared.ids.MethodId.{MethodId}
 use Rattle.name_tables.specs.Numbers.{method_at}
 use Rattle.object_memory.specs.declared.addresses.Addr.{Addr}
 use Rattle.object_memory.specs.declared.kinds.Kind.{Kind}
@@ -20,6 +19,7 @@ use Rattle.object_memory.specs.declared.values.Value.TheVariants.{Ref}
 use Rattle.object_memory.specs.Cells.{Cell, literal_number}
 use Rattle.object_memory.specs.Objects.{Objects, object_cell}
 use Rattle.loaded_program.specs.AllMethods.{all_methods}
+use Rattle.loaded_program.specs.BuiltInClasses.{string_class}
 use Rattle.loaded_program.specs.MethodNumbers.{number_of}
 use Rattle.loaded_program.specs.Prepared.{local_kinds}
 use Rattle.threads_monitors.specs.declared.mutators.Mutator.{Mutator}
@@ -99,14 +99,14 @@ class_of_kind (Array a) = None
 
 -- of what lies at an address: a literal is of System.String
 abbrev pub class_at : Objects → Addr → Option (Option ℕ)
-class_at o a = option_map_or (λ n. Some (Some STRING)) (literal_number a) (option_map (λ (c : Cell). class_of_kind c.kind) (object_cell o a))
+class_at o a = option_map_or (λ n. Some (Some string_class)) (literal_number a) (option_map (λ (c : Cell). class_of_kind c.kind) (object_cell o a))
 
 -- the method that runs for an object
 abbrev pub chosen_method : Tree → Objects → Addr → ClassName × Method → Option (ClassName × Method)
 chosen_method tree o a found = option_and_then (chosen_by tree found) (class_at o a)
 
 -- the same of the method of a number
-abbrev pub chosen_at : Tree → Objects → Addr → MemberNumber → Option (ClassName × Method)
+abbrev pub chosen_at : Tree → Objects → Addr → MethodId → Option (ClassName × Method)
 chosen_at tree o a n = option_and_then (chosen_method tree o a) (method_at tree (n.class, n.index))
 
 -- the object on which a method with this number of operands is called

@@ -13,7 +13,7 @@ use instructions::births::{new_object, new_plain_object};
 use instructions::calls::call;
 use instructions::{Callee, locks, printing, stack};
 use loaded_program::{Action, LoadedProgram};
-use name_tables::numbers::STRING;
+use name_tables::ids::{ClassId, STRING};
 use object_memory::{Addr, Heap, Kind, Value};
 use threads_monitors::{Effect, FrameMemory, Mutator};
 
@@ -105,15 +105,15 @@ fn receiver(frames: &FrameMemory, operands: usize) -> Addr
     }
 }
 
-/// The number of an object's class. None for an array.
-pub fn class_number(heap: &Heap, object: Addr) -> Option<usize>
+/// An object's class. None for an array.
+pub fn class_id(heap: &Heap, object: Addr) -> Option<ClassId>
     requires { IsSome (class_at heap.now object) }
     ensures { class_at heap.now object ≡ Some result }
 {
     match object.literal_number() {
         Some(_) => Some(STRING),
         None => match heap.kind(object) {
-            Kind::Instance(class) => Some(usize::from(class)),
+            Kind::Instance(class) => Some(ClassId::new(usize::from(class))),
             Kind::Array(_) => None,
         },
     }
@@ -139,7 +139,7 @@ pub(crate) fn run_virtual(
     if object.is_null() {
         return Ok(InstructionOutcome::OwnEffect(Effect::Raises(Fault::NullReference)));
     }
-    let target = program.target(number, class_number(&store.heap, object));
+    let target = program.target(number, class_id(&store.heap, object));
     run(program, mutator, target, frames, store)
 }
 

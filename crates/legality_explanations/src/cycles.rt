@@ -6,6 +6,7 @@ ghost use Rattle.legality_explanations.specs.Locations.{IsOfClass};
 use crate::breaches::{Breach, Found};
 use crate::sentences::{write_one, write_two};
 use crate::sites::{Sites, class_key};
+use source_positions::name_tables::ids::ClassId;
 use source_positions::name_tables::keys::ClassKey;
 use source_positions::name_tables::lookups::NameTables;
 use source_positions::{ClassPart, ClassText, Location};
@@ -40,14 +41,14 @@ impl fmt::Display for OwnBase<'_> {
 
 impl Breach for OwnBase<'_> {}
 
-/// The base of a class, with its number.
-fn base_of<'a>(names: &NameTables<'a>, class: usize) -> Option<(usize, ClassKey<'a>)> {
+/// The base of a class, with its name.
+fn base_of<'a>(names: &NameTables<'a>, class: ClassId) -> Option<(ClassId, ClassKey<'a>)> {
     let base = names.base(class)?;
     Some((base, class_key(names, base)?))
 }
 
 fn write_bases<W: fmt::Write>(f: &mut fmt::Formatter<W>, own_base: &OwnBase) -> fmt::Result {
-    let mut class = own_base.number;
+    let mut class = ClassId::new(own_base.number);
     for _ in 0..MOST_NAMED {
         let Some((base, key)) = base_of(own_base.names, class) else {
             break;
@@ -70,7 +71,7 @@ pub(crate) fn own_base<'a>(names: &'a NameTables<'a>, class: usize) -> Option<Fo
     let key = ClassKey::of_source(declared);
     let own_base = OwnBase {
         class: key,
-        number: names.classes.number(key)?,
+        number: names.classes.number(key)?.number(),
         names,
     };
     let part = ClassPart::Base;

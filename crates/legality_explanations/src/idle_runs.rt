@@ -5,6 +5,7 @@ use source_positions::cil_model::instructions::MethodName;
 use source_positions::cil_model::memory::NoMemory;
 use source_positions::cil_model::trees::{Class, Member, Method, MethodKind, Tree};
 use source_positions::name_tables::built_in::BuiltInClass;
+use source_positions::name_tables::ids::ClassId;
 use source_positions::name_tables::keys::{ClassKey, MethodKey};
 use source_positions::name_tables::lookups::NameTables;
 use source_positions::{MethodText, Named, offset_of};
@@ -29,8 +30,8 @@ impl fmt::Display for IdleRun<'_> {
     }
 }
 
-/// Whether a class, by its number among all classes, is `Cilvm.Thread`.
-fn is_thread(names: &NameTables, class: usize) -> bool {
+/// Whether a class is `Cilvm.Thread`.
+fn is_thread(names: &NameTables, class: ClassId) -> bool {
     match class_key(names, class) {
         Some(
             ClassKey {

@@ -8,8 +8,9 @@ use crate::sites::{Sites, class_key, listed_interface, method_key, method_locati
 use metadata::violations;
 use source_positions::cil_model::texts::Text;
 use source_positions::cil_model::trees::Class;
+use source_positions::name_tables::ids::MethodId;
 use source_positions::name_tables::keys::{ClassKey, MethodKey};
-use source_positions::name_tables::lookups::{MemberNumber, NameTables};
+use source_positions::name_tables::lookups::NameTables;
 use source_positions::{ClassPart, ClassText, Location, MethodText};
 use std::fmt;
 
@@ -67,11 +68,12 @@ pub(crate) fn not_implemented<'a>(
     let violations::NotImplemented { class, listed } = absent;
     let declared = names.classes.tree.classes.as_slice().get(class)?;
     let interface = listed_interface(declared, listed.interface)?;
-    let owner = MemberNumber {
-        class: names.classes.number(interface)?,
+    let owner = names.classes.number(interface)?;
+    let id = MethodId {
+        class: owner,
         index: listed.method,
     };
-    let method = method_key(names, owner)?;
+    let method = method_key(names, id)?;
     let absent = NotImplemented {
         class: &declared.name,
         interface,
@@ -80,6 +82,6 @@ pub(crate) fn not_implemented<'a>(
     };
     let part = ClassPart::Interface(listed.interface);
     let location = Location::InClass { class, part };
-    let sites = Sites::beside(location, method_location(names, owner.class, method));
+    let sites = Sites::beside(location, method_location(names, owner, method));
     Some((absent, sites))
 }

@@ -9,8 +9,9 @@ use metadata::violations;
 use metadata::violations::KindFault;
 use source_positions::cil_model::texts::Text;
 use source_positions::cil_model::trees::Class;
+use source_positions::name_tables::ids::{ClassId, MethodId};
 use source_positions::name_tables::keys::{ClassKey, MethodKey};
-use source_positions::name_tables::lookups::{MemberNumber, NameTables};
+use source_positions::name_tables::lookups::NameTables;
 use source_positions::{ClassText, Location, MethodText, nth_method};
 use std::fmt;
 
@@ -132,23 +133,28 @@ fn found(kind_mismatch: KindMismatch<'_>, sites: Sites) -> Option<Found<KindMism
     Some((kind_mismatch, sites))
 }
 
-/// What stands between a class and one of its bases: the last class that is not abstract, since there first a method of that base is left
-/// open; and the last class that has a method of a name and signature.
+/// What stands between a class and one of its bases, by their numbers: the last class that is not abstract, since there first a method of that
+/// base is left open; and the last class that has a method of a name and signature.
 #[derive(Clone, Copy)]
 struct Nearer {
     open: Option<usize>,
     hiding: Option<usize>,
 }
 
-fn is_abstract_class(names: &NameTables, class: usize) -> bool {
+fn is_abstract_class(names: &NameTables, class: ClassId) -> bool {
     match names.classes.class(class) {
         None => false,
         Some(declared) => declared.is_abstract,
     }
 }
 
-/// What stands between a class and one of its bases, by their numbers. None where it is no base of the class.
-fn nearer_than(names: &NameTables, first: usize, owner: usize, key: MethodKey) -> Option<Nearer> {
+/// What stands between a class and one of its bases. None where it is no base of the class.
+fn nearer_than(
+    names: &NameTables,
+    first: ClassId,
+    owner: ClassId,
+    key: MethodKey,
+) -> Option<Nearer> {
     let mut open = None;
     let mut hiding = None;
     let mut next = Some(first);
@@ -158,10 +164,10 @@ fn nearer_than(names: &NameTables, first: usize, owner: usize, key: MethodKey) -
             return Some(Nearer { open, hiding });
         }
         if names.classes.method(class, key).is_some() {
-            hiding = Some(class);
+            hiding = Some(class.number());
         }
         if !is_abstract_class(names, class) {
-            open = Some(class);
+            open = Some(class.number());
         }
         next = names.base(class);
     }
@@ -171,18 +177,18 @@ fn nearer_than(names: &NameTables, first: usize, owner: usize, key: MethodKey) -
 /// A method that is left open, with what stands between its class, which is the owner, and the class that leaves it open.
 fn described_left_open<'a>(
     names: &NameTables<'a>,
-    owner: usize,
+    owner: ClassId,
     method: MethodKey<'a>,
     nearer: Nearer,
 ) -> Option<Found<KindMismatch<'a>>> {
-    let number = source_number(names, nearer.open?)?;
+    let number = source_number(names, ClassId::new(nearer.open?))?;
     let kind_mismatch = KindMismatch::LeftOpen {
         class: &names.classes.tree.classes.as_slice().get(number)?.name,
         owner: class_key(names, owner)?,
         method,
         hidden_by: match nearer.hiding {
             None => None,
-            Some(hiding) => class_key(names, hiding),
+            Some(hiding) => class_key(names, ClassId::new(hiding)),
         },
     };
     let declared = method_location(names, owner, method);
@@ -192,12 +198,13 @@ fn described_left_open<'a>(
 fn left_open<'a>(
     names: &NameTables<'a>,
     class: &Class,
-    open: MemberNumber,
+    open: MethodId,
 ) -> Option<Found<KindMismatch<'a>>> {
     let first = names.classes.number(ClassKey::of_source(class))?;
+    let owner = open.class;
     let method = method_key(names, open)?;
-    let nearer = nearer_than(names, first, open.class, method)?;
-    described_left_open(names, open.class, method, nearer)
+    let nearer = nearer_than(names, first, owner, method)?;
+    described_left_open(names, owner, method, nearer)
 }
 
 /// The name of a method of a class that has a number in the source, and the location of that name.
@@ -228,12 +235,12 @@ fn is_abstract(class: usize, declared: &Class, method: usize) -> Option<Found<Ki
     )
 }
 
-/// A method that would override one of a base, which has a number among all classes.
+/// A method that would override one of a base.
 fn over_plain<'a>(
     names: &NameTables<'a>,
     class: &'a Class,
     named: (MethodKey<'a>, Location),
-    base: usize,
+    base: ClassId,
 ) -> Option<Found<KindMismatch<'a>>> {
     let (method, location) = named;
     let kind_mismatch = KindMismatch::OverPlain {

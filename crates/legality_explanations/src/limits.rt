@@ -13,6 +13,7 @@ use source_positions::cil_model::limits::{
 use source_positions::cil_model::texts::Text;
 use source_positions::cil_model::trees::{Class, Member, Method, Tree};
 use source_positions::name_tables::bodies::{code_of, lines_of, locals_of};
+use source_positions::name_tables::ids::ClassId;
 use source_positions::name_tables::keys::ClassKey;
 use source_positions::name_tables::kinds::is_static;
 use source_positions::name_tables::lookups::NameTables;
@@ -219,8 +220,8 @@ fn passed_static_fields(
     found(Passed::Beyond(STATIC_FIELDS), spot.name())
 }
 
-/// How many instance fields a class of a number among all classes declares.
-fn count_own_fields(names: &NameTables, class: usize) -> usize {
+/// How many instance fields a class declares.
+fn count_own_fields(names: &NameTables, class: ClassId) -> usize {
     let Some(declared) = names.classes.class(class) else {
         return 0;
     };

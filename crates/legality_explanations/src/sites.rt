@@ -5,8 +5,9 @@ ghost use Rattle.legality_explanations.specs.Locations.{IsOfClass};
 
 use metadata::violations::SourceMember;
 use source_positions::cil_model::trees::{Class, ClassKind, Field, Member, Method, Tree};
+use source_positions::name_tables::ids::{ClassId, MethodId};
 use source_positions::name_tables::keys::{ClassKey, MethodKey};
-use source_positions::name_tables::lookups::{MemberNumber, NameTables};
+use source_positions::name_tables::lookups::NameTables;
 use source_positions::{ClassPart, LinePart, Location, MemberPart, nth_field, nth_method};
 
 /// Where a rule is broken.
@@ -126,25 +127,22 @@ pub(crate) fn listed_interface(class: &Class, entry: usize) -> Option<ClassKey<'
     Some(ClassKey::of(interfaces.as_slice().get(entry)?))
 }
 
-/// The name of a class by its number among all classes.
-pub(crate) fn class_key<'a>(names: &NameTables<'a>, class: usize) -> Option<ClassKey<'a>> {
-    names.classes.names().get(class).copied()
+/// The name of a class by its id.
+pub(crate) fn class_key<'a>(names: &NameTables<'a>, class: ClassId) -> Option<ClassKey<'a>> {
+    names.classes.names().get(class.number()).copied()
 }
 
-/// The name and signature of a method by its number among those of all classes.
-pub(crate) fn method_key<'a>(
-    names: &NameTables<'a>,
-    number: MemberNumber,
-) -> Option<MethodKey<'a>> {
-    let methods = names.classes.class(number.class)?.methods.as_slice();
-    Some(key_of(*methods.get(number.index)?))
+/// The name and signature of a method by its id.
+pub(crate) fn method_key<'a>(names: &NameTables<'a>, method: MethodId) -> Option<MethodKey<'a>> {
+    let methods = names.classes.class(method.class)?.methods.as_slice();
+    Some(key_of(*methods.get(method.index)?))
 }
 
-/// The number in the source of a class that has a number among all classes, the built-in ones first. None for a built-in class.
-pub(crate) fn source_number(names: &NameTables, class: usize) -> Option<usize> {
+/// The number in the source of a class. None for a built-in class.
+pub(crate) fn source_number(names: &NameTables, class: ClassId) -> Option<usize> {
     let sources = names.classes.tree.classes.as_slice().len();
     let built_in = names.classes.names().len().checked_sub(sources)?;
-    class.checked_sub(built_in)
+    class.number().checked_sub(built_in)
 }
 
 /// The number of a method among the members of its class.
@@ -159,9 +157,8 @@ fn member_number(class: &Class, key: MethodKey) -> Option<usize> {
     None
 }
 
-/// The location of the name of a method in a class, which has its number among all classes. None where the class is built in or has no such
-/// method.
-pub fn method_location(names: &NameTables, class: usize, key: MethodKey) -> Option<Location> {
+/// The location of the name of a method in a class. None where the class is built in or has no such method.
+pub fn method_location(names: &NameTables, class: ClassId, key: MethodKey) -> Option<Location> {
     let class = source_number(names, class)?;
     let declared = names.classes.tree.classes.as_slice().get(class)?;
     let member = member_number(declared, key)?;

@@ -2,7 +2,8 @@
 use Rattle.std.proofs.Common.{◌≡◌, ◌<◌, ℕ, if◌then◌else◌, nat_lt, Option, Some, None, option_map, option_and_then, ap, ◌∙◌}
 use Rattle.std.proofs.lemmas.Option.{same_Some}
 use Rattle.cil_model.specs.declared.trees.Tree.{Tree}
-use Rattle.name_tables.specs.declared.lookups.MemberNumber.{MemberNumber}
+use Rattle.name_tables.specs.declared.ids.FieldId.{FieldId}
+use Rattle.name_tables.specs.declared.ids.MethodId.{MethodId}
 use Rattle.object_memory.specs.declared.addresses.Addr.{Addr}
 use Rattle.object_memory.specs.declared.addresses.TheConstants.{FIRST_LITERAL}
 use Rattle.cil_model.specs.declared.values.ValueKind.{ValueKind}
@@ -27,12 +28,12 @@ mapped_is make o x required known e =
     let there = map_some make o required e in
     ap make (known there.0 there.1) ∙ there.2
 
-pub field_is : (tree : Tree) (n : MemberNumber) (slot : ℕ) (kind : ValueKind) (required : LinkedInstruction) → Known (slot_at tree n) slot → Known (held_at tree n) kind → field_link tree n ≡ Some required → Linked.LoadField slot kind ≡ required
+pub field_is : (tree : Tree) (n : FieldId) (slot : ℕ) (kind : ValueKind) (required : LinkedInstruction) → Known (slot_at tree n) slot → Known (held_at tree n) kind → field_link tree n ≡ Some required → Linked.LoadField slot kind ≡ required
 field_is tree n slot kind required slot_known kind_known e =
     let first = then_some (λ slot. option_map (λ kind. Linked.LoadField slot kind) (held_at tree n)) (slot_at tree n) required e in
     ap (λ x. Linked.LoadField x kind) (slot_known first.0 first.1) ∙ mapped_is (λ x. Linked.LoadField first.0 x) (held_at tree n) kind required kind_known first.2
 
-pub new_is : (tree : Tree) (n : MemberNumber) (class slots number : ℕ) (required : LinkedInstruction) → Known (class_in n) class → Known (slots_at tree n) slots → Known (number_at tree n) number → new_link tree n ≡ Some required
+pub new_is : (tree : Tree) (n : MethodId) (class slots number : ℕ) (required : LinkedInstruction) → Known (class_in n) class → Known (slots_at tree n) slots → Known (number_at tree n) number → new_link tree n ≡ Some required
     → Linked.NewObject class slots number ≡ required
 new_is tree n class slots number required class_known slots_known number_known e =
     let first = then_some (λ class. option_and_then (λ slots. option_map (λ number. Linked.NewObject class slots number) (number_at tree n)) (slots_at tree n)) (class_in n) required e in

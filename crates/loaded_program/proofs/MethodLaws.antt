@@ -1,5 +1,5 @@
 -- Loaded methods.
-use Rattle.std.proofs.Common.{◌≡◌, ◌<◌, ℕ, zero, suc, if◌then◌else◌, List, [], ◌∷◌, length, Option, Some, None, slice_get, refl, sym, ap, subst, ◌∙◌, arith}
+use Rattle.std.proofs.Common.{◌≡◌, ◌<◌, ℕ, zero, suc, List, [], ◌∷◌, length, Option, Some, None, slice_get, refl, sym, ap, subst, ◌∙◌}
 use Rattle.std.specs.Prelude.{IsSome, is_some, option_and_then}
 use Rattle.cil_model.specs.declared.types.ClassName.{ClassName}
 use Rattle.cil_model.specs.declared.trees.Tree.{Tree}
@@ -16,17 +16,9 @@ use Rattle.resolved_code.specs.declared.classes.ResolvedKind.TheVariants as Kind
 use Rattle.resolved_code.specs.declared.operations.Operation.{Operation}
 use Rattle.loaded_program.specs.declared.instructions.LinkedInstruction.{LinkedInstruction}
 use Rattle.std.proofs.lemmas.Option.{same_Some, slice_get_within}
-use Rattle.cil_model.proofs.Lists.{none_is_some}
-use Rattle.cil_model.specs.Chains.{is_interface}
-use Rattle.cil_model.specs.Declarations.{Declaration}
-use Rattle.cil_model.specs.Slots.{target, class_target, interface_target}
-use Rattle.name_tables.specs.Numbers.{declarations}
-use Rattle.resolved_code.specs.ById.{class_name}
 use Rattle.loaded_program.specs.AllMethods.{all_methods}
-use Rattle.loaded_program.specs.declared.loaded_methods.Targets.{Targets}
-use Rattle.loaded_program.specs.declared.loaded_methods.Targets.TheVariants.{Itself, ByClass}
-use Rattle.loaded_program.specs.Loaded.{AreTargets, IsCode, IsLinkedAt, IsLinkedOperation, IsLinkedLine, IsTarget, chosen_by, has_value, line_in, operations_of, target_in, target_number}
-use Rattle.loaded_program.proofs.OperandLaws.{map_some, then_some}
+use Rattle.loaded_program.specs.Loaded.{IsCode, IsLinkedAt, IsLinkedOperation, IsLinkedLine, chosen_by, has_value, line_in, operations_of, target_in}
+use Rattle.loaded_program.proofs.OperandLaws.{then_some}
 
 -- the item of the second list at an index of the first
 pub alike_from : {X Y : Type 0} (R : X → Y → Type 0) (xs : List X) (ys : List Y) (n : ℕ) (x : X) → AllAlike R xs ys → slice_get xs n ≡ Some x → (y : Y) × (slice_get ys n ≡ Some y) × R x y
@@ -78,11 +70,6 @@ pub some_of : {X : Type 0} (o : Option X) → IsSome o → (x : X) × (o ≡ Som
 some_of (Some x) there = (x, refl)
 some_of None there = absurd cc
 
-pub there_at : {X : Type 0} (xs : List X) (n : ℕ) → n < length xs → (x : X) × (slice_get xs n ≡ Some x)
-there_at [] n within = absurd (omega arith)
-there_at (x ∷ xs) zero within = (x, refl)
-there_at (x ∷ xs) (suc n) within = there_at xs n (omega arith)
-
 -- the line at a pc of the method of a flat number, linked
 module _ (tree : Tree) (number index : ℕ) (there : IsSome (line_in tree number index)) where
   lined : (line : Line) × (line_in tree number index ≡ Some line)
@@ -106,26 +93,9 @@ module _ (tree : Tree) (number index : ℕ) (there : IsSome (line_in tree number
     pub is_linked_at : (l : LinkedInstruction) → slice_get code index ≡ Some l → IsLinkedAt tree number index l
     is_linked_at l l_is = record { found = is.found; line = lined.0; found_is = is.found_is; line_is = line_at; linked = subst (IsLinkedLine tree is.found lined.0) (same_Some here.0 l (sym here.1 ∙ l_is)) here.2 }
 
--- ---- targets
+-- ---- what runs
 
 module _ (tree : Tree) (number : ℕ) where
-  -- what is found runs
-  pub by_targets : (found : ClassName × Method) (class : Option ℕ) (targets : Targets) → slice_get (all_methods tree) number ≡ Some found → AreTargets tree found targets → (run : ClassName × Method) → chosen_by tree found class ≡ Some run
-      → (target : ℕ) × (target_number targets number class ≡ Some target) × (slice_get (all_methods tree) target ≡ Some run)
-  by_targets found None Itself at plain run e =
-      let same : found ≡ run = same_Some found run (sym (ap (λ b. if b then None else Some found) plain) ∙ e) in
-      (number, refl, at ∙ ap Some same)
-  by_targets found None (ByClass row) at targets run e = absurd (none_is_some run (sym (ap (λ b. if b then None else Some found) targets.0) ∙ e))
-  by_targets found (Some n) Itself at plain run e =
-      let class = then_some (λ d. target tree d found.0 found.1) (class_name tree n) run e in
-      let same : found ≡ run = same_Some found run (sym (ap (λ b. if b then (if is_interface tree found.0 then interface_target tree found.1.name found.1.signature class.0 found.0 else class_target tree found.1.name found.1.signature class.0 found.0) else Some found) plain) ∙ class.2) in
-      (number, refl, at ∙ ap Some same)
-  by_targets found (Some n) (ByClass row) at targets run e =
-      let class = then_some (λ d. target tree d found.0 found.1) (class_name tree n) run e in
-      let entry = map_some (λ (e : ClassName × Declaration). e.0) (slice_get (declarations tree) n) class.0 class.1 in
-      let known = alike_from (λ (e : ClassName × Declaration) number. IsTarget tree found e.0 number) (declarations tree) row.items n entry.0 targets.1 entry.1 in
-      (known.0, known.1, known.2 run (ap (λ d. target tree d found.0 found.1) entry.2 ∙ class.2))
-
   -- a method, and what runs in its place
   pub record Chosen (class : Option ℕ) : Type 0 where
     pub found : ClassName × Method

@@ -6,7 +6,8 @@ use Rattle.cil_model.specs.declared.trees.Tree.{Tree}
 use Rattle.cil_model.specs.declared.trees.Field.{Field}
 use Rattle.cil_model.specs.declared.trees.Method.{Method}
 use Rattle.cil_model.specs.Fields.{instance_slot, static_slot, slot_types}
-use Rattle.name_tables.specs.declared.lookups.MemberNumber.{MemberNumber}
+use Rattle.name_tables.specs.declared.ids.FieldId.{FieldId}
+use Rattle.name_tables.specs.declared.ids.MethodId.{MethodId}
 use Rattle.name_tables.specs.Numbers.{field_at, method_at}
 use Rattle.resolved_code.specs.Resolved.{BothAlike}
 use Rattle.resolved_code.specs.ById.{class_name}
@@ -62,7 +63,7 @@ small_is k n e =
     let same : k ≡ n = cc in
     (same, subst (λ x. x < 2 ^ 32) same (below k (2 ^ 32) passed.0))
 
-module _ (tree : Tree) (field : MemberNumber) (n : ℕ) where
+module _ (tree : Tree) (field : FieldId) (n : ℕ) where
   -- an instance field and its slot
   pub record InstanceField : Type 0 where
     pub found : ClassName × Field
@@ -96,25 +97,25 @@ module _ (tree : Tree) (field : MemberNumber) (n : ℕ) where
       record { found = found.0; found_is = found.1; is_static = kind.0; number_is = number.1 ∙ ap Some size.0; fits = size.1 }
 
 -- the class of a member, and the size of its objects
-pub record Sized (tree : Tree) (member : MemberNumber) (n : ℕ) : Type 0 where
+pub record Sized (tree : Tree) (member : MethodId) (n : ℕ) : Type 0 where
   pub class : ClassName
   pub class_is : class_name tree member.class ≡ Some class
   pub size_is : length (slot_types tree class) ≡ n
   pub fits : n < 2 ^ 32
 
-pub sized : (tree : Tree) (member : MemberNumber) (n : ℕ) → slots_at tree member ≡ Some n → Sized tree member n
+pub sized : (tree : Tree) (member : MethodId) (n : ℕ) → slots_at tree member ≡ Some n → Sized tree member n
 sized tree member n e =
     let class = then_some (λ c. small (length (slot_types tree c))) (class_name tree member.class) n e in
     let size = small_is (length (slot_types tree class.0)) n class.2 in
     record { class = class.0; class_is = class.1; size_is = size.0; fits = size.1 }
 
 -- the method of a number, and its flat number
-pub record HasFlatNumber (tree : Tree) (member : MemberNumber) (n : ℕ) : Type 0 where
+pub record HasFlatNumber (tree : Tree) (member : MethodId) (n : ℕ) : Type 0 where
   pub found : ClassName × Method
   pub found_is : method_at tree (member.class, member.index) ≡ Some found
   pub number_is : flat_number tree member.class member.index ≡ n
 
-pub has_id : (tree : Tree) (member : MemberNumber) (n : ℕ) → number_at tree member ≡ Some n → HasFlatNumber tree member n
+pub has_id : (tree : Tree) (member : MethodId) (n : ℕ) → number_at tree member ≡ Some n → HasFlatNumber tree member n
 has_id tree member n e =
     let found = map_some (λ (found : ClassName × Method). flat_number tree member.class member.index) (method_at tree (member.class, member.index)) n e in
     record { found = found.0; found_is = found.1; number_is = found.2 }

@@ -4,7 +4,8 @@ use Rattle.cil_model.specs.declared.types.ClassName.{ClassName}
 use Rattle.cil_model.specs.declared.trees.Tree.{Tree}
 use Rattle.cil_model.specs.declared.trees.Method.{Method}
 use Rattle.cil_model.specs.Bodies.{argument_types}
-use Rattle.name_tables.specs.declared.lookups.MemberNumber.{MemberNumber}
+use Rattle.name_tables.specs.declared.ids.FieldId.{FieldId}
+use Rattle.name_tables.specs.declared.ids.MethodId.{MethodId}
 use Rattle.name_tables.specs.Numbers.{method_at}
 use Rattle.resolved_code.specs.declared.operations.Operation.{Operation}
 use Rattle.resolved_code.specs.declared.operations.Operation.TheVariants as Resolved
@@ -16,19 +17,19 @@ use Rattle.loaded_program.specs.declared.instructions.LinkedInstruction.TheVaria
 use Rattle.loaded_program.specs.Operands.{slot_at, static_at, held_at, array_held, class_in, slots_at}
 
 -- the flat number of a member, where it is a method
-abbrev pub number_at : Tree → MemberNumber → Option ℕ
+abbrev pub number_at : Tree → MethodId → Option ℕ
 number_at tree n = option_map (λ (found : ClassName × Method). flat_number tree n.class n.index) (method_at tree (n.class, n.index))
 
 -- a virtual call of a method, with the number of its operands (III.4.2)
-abbrev pub virtual_link : Tree → MemberNumber → Option LinkedInstruction
+abbrev pub virtual_link : Tree → MethodId → Option LinkedInstruction
 virtual_link tree n = option_map (λ (found : ClassName × Method). Linked.CallVirtual (flat_number tree n.class n.index) (length (argument_types found.1 found.0))) (method_at tree (n.class, n.index))
 
 -- an object's class, its slots and its constructor (III.4.21)
-abbrev pub new_link : Tree → MemberNumber → Option LinkedInstruction
+abbrev pub new_link : Tree → MethodId → Option LinkedInstruction
 new_link tree n = option_and_then (λ class. option_and_then (λ slots. option_map (λ number. Linked.NewObject class slots number) (number_at tree n)) (slots_at tree n)) (class_in n)
 
 -- a field's slot and what it holds (III.4.10)
-abbrev pub field_link : Tree → MemberNumber → Option LinkedInstruction
+abbrev pub field_link : Tree → FieldId → Option LinkedInstruction
 field_link tree n = option_and_then (λ slot. option_map (λ kind. Linked.LoadField slot kind) (held_at tree n)) (slot_at tree n)
 
 -- a resolved instruction of a method that returns a value or none, linked (III.3, III.4). None where an operand represents nothing

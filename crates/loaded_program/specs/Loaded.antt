@@ -1,12 +1,11 @@
 -- What a loaded program holds.
-use Rattle.std.specs.Prelude.{◌≡◌, ◌<◌, ◌^◌, ℕ, Bool, true, false, if◌then◌else◌, List, [], length, is_some, Option, Some, None, option_map, option_and_then, slice_get}
+use Rattle.std.specs.Prelude.{◌≡◌, ◌<◌, ◌^◌, ℕ, Bool, if◌then◌else◌, List, [], length, is_some, Option, Some, None, option_map, option_and_then, slice_get}
 use Rattle.cil_model.specs.declared.types.ClassName.{ClassName}
 use Rattle.cil_model.specs.declared.trees.Tree.{Tree}
 use Rattle.cil_model.specs.declared.trees.Line.{Line}
 use Rattle.cil_model.specs.declared.trees.Method.{Method}
 use Rattle.cil_model.specs.Bodies.{argument_types, lines_of}
 use Rattle.cil_model.specs.Chains.{is_virtual}
-use Rattle.cil_model.specs.Declarations.{Declaration}
 use Rattle.cil_model.specs.Slots.{target}
 use Rattle.name_tables.specs.Numbers.{declarations, method_at}
 use Rattle.reference_machine.specs.BuiltIn.{action_of}
@@ -23,8 +22,6 @@ use Rattle.loaded_program.specs.declared.numbers.MethodNumbers.{MethodNumbers}
 use Rattle.loaded_program.specs.declared.instructions.LinkedInstruction.{LinkedInstruction}
 use Rattle.loaded_program.specs.declared.linker.Linker.{Linker}
 use Rattle.loaded_program.specs.declared.loaded_methods.LoadedMethod.{LoadedMethod}
-use Rattle.loaded_program.specs.declared.loaded_methods.Targets.{Targets}
-use Rattle.loaded_program.specs.declared.loaded_methods.Targets.TheVariants.{Itself, ByClass}
 use Rattle.loaded_program.specs.Operands.{HasSmallConstant}
 use Rattle.loaded_program.specs.Links.{IsLinked}
 
@@ -60,21 +57,6 @@ pub record IsLinkedLine (tree : Tree) (found : ClassName × Method) (line : Line
   pub refines : IsOperation tree (lines_of found.1) line.instruction operation
   pub links : IsLinkedOperation tree (has_value found) operation linked
 
--- the number of the method that runs on objects of a class in place of a method, where one does (II.10.3, II.12.2)
-abbrev pub IsTarget : Tree → ClassName × Method → ClassName → ℕ → Type 0
-IsTarget tree found class number = (run : ClassName × Method) → target tree class found.0 found.1 ≡ Some run → slice_get (all_methods tree) number ≡ Some run
-
--- which method runs in place of a method: itself where it is not virtual, else one for each class
-abbrev pub AreTargets : Tree → ClassName × Method → Targets → Type 0
-AreTargets tree found Itself = is_virtual found.1.kind ≡ false
-AreTargets tree found (ByClass row) = (is_virtual found.1.kind ≡ true) × AllAlike (λ (e : ClassName × Declaration) number. IsTarget tree found e.0 number) (declarations tree) row.items
-
--- the number that is found there for a method, where it is called on an object of a class, or on an array, which has none
-abbrev pub target_number : Targets → ℕ → Option ℕ → Option ℕ
-target_number Itself method class = Some method
-target_number (ByClass row) method None = Some method
-target_number (ByClass row) method (Some n) = slice_get row.items n
-
 -- a method of a class, loaded
 pub record IsLoadedMethod (tree : Tree) (found : ClassName × Method) (loaded : LoadedMethod) : Type 0 where
   pub member : method_at tree (loaded.member.class, loaded.member.index) ≡ Some found
@@ -83,7 +65,6 @@ pub record IsLoadedMethod (tree : Tree) (found : ClassName × Method) (loaded : 
   pub has_value : loaded.has_value ≡ is_some found.1.signature.return_type
   pub action : option_map action_named loaded.action ≡ action_of found.0 found.1
   pub code : AllAlike (IsLinkedLine tree found) (lines_of found.1) loaded.code.items
-  pub targets : AreTargets tree found loaded.targets
 
 -- a loaded program
 pub record IsLoaded (tree : Tree) (layout : Layout) (numbers : MethodNumbers) (methods : List LoadedMethod) : Type 0 where

@@ -7,7 +7,8 @@ use Rattle.cil_model.specs.declared.trees.Tree.{Tree}
 use Rattle.cil_model.specs.declared.trees.Field.{Field}
 use Rattle.cil_model.specs.Fields.{FieldKey, instance_slot, static_slot, slot_types}
 use Rattle.cil_model.specs.ValueKinds.{kind_of_type}
-use Rattle.name_tables.specs.declared.lookups.MemberNumber.{MemberNumber}
+use Rattle.name_tables.specs.declared.ids.FieldId.{FieldId}
+use Rattle.name_tables.specs.declared.ids.MethodId.{MethodId}
 use Rattle.name_tables.specs.Numbers.{field_at}
 use Rattle.resolved_code.specs.ById.{class_name}
 use Rattle.resolved_code.specs.declared.operations.Operation.{Operation}
@@ -38,18 +39,18 @@ key_at found = record { declared_in = found.0; name = found.1.name }
 abbrev pub slot_in : Tree → ClassName × Field → Option ℕ
 slot_in tree found = if found.1.is_static then None else option_and_then small (instance_slot tree (key_at found))
 
-abbrev pub slot_at : Tree → MemberNumber → Option ℕ
+abbrev pub slot_at : Tree → FieldId → Option ℕ
 slot_at tree n = option_and_then (slot_in tree) (field_at tree (n.class, n.index))
 
 -- the number of a static field
 abbrev pub static_in : Tree → ClassName × Field → Option ℕ
 static_in tree found = if found.1.is_static then option_and_then small (static_slot tree (key_at found)) else None
 
-abbrev pub static_at : Tree → MemberNumber → Option ℕ
+abbrev pub static_at : Tree → FieldId → Option ℕ
 static_at tree n = option_and_then (static_in tree) (field_at tree (n.class, n.index))
 
 -- what a field holds
-abbrev pub held_at : Tree → MemberNumber → Option ValueKind
+abbrev pub held_at : Tree → FieldId → Option ValueKind
 held_at tree n = option_map (λ (found : ClassName × Field). kind_of_type found.1.field_type) (field_at tree (n.class, n.index))
 
 -- what an array of these elements is made by: a class's number of 16 bits, and few brackets
@@ -64,9 +65,9 @@ abbrev pub array_held : ResolvedType → Option ArrayElement
 array_held t = if nat_lt t.brackets 256 then option_map (λ e. record { element = e; brackets = t.brackets }) (element_held t.element) else None
 
 -- the number of a member's class, of 16 bits
-abbrev pub class_in : MemberNumber → Option ℕ
+abbrev pub class_in : MethodId → Option ℕ
 class_in n = if nat_lt n.class (2 ^ 16) then Some n.class else None
 
 -- how many slots the objects of its class have
-abbrev pub slots_at : Tree → MemberNumber → Option ℕ
+abbrev pub slots_at : Tree → MethodId → Option ℕ
 slots_at tree n = option_and_then (λ c. small (length (slot_types tree c))) (class_name tree n.class)

@@ -7,9 +7,9 @@ ghost use Rattle.cil_model.specs.declared.trees.Tree.{Tree};
 ghost use Rattle.name_tables.specs.Numbers.{method_at};
 ghost use Rattle.reference_machine.specs.BuiltIn.{action_of};
 ghost use Rattle.loaded_program.specs.Prepared.{action_named};
+ghost use Rattle.loaded_program.specs.BuiltInClasses.{monitor_class, thread_class};
 
-use name_tables::lookups::MemberNumber;
-use name_tables::numbers::{CONSOLE, MONITOR, OBJECT, THREAD};
+use name_tables::ids::{CONSOLE, MONITOR, MethodId, OBJECT, THREAD};
 
 /// What a call of a built-in member without code does, in place of a frame.
 #[derive(Clone, Copy)]
@@ -29,7 +29,7 @@ pub enum Action {
 }
 
 fn monitor_action(index: usize) -> Option<Action>
-    ensures { (tree : Tree) (c : ClassName) (m : Method) → method_at tree (MONITOR, index) ≡ Some (c, m) → option_map action_named result ≡ action_of c m }
+    ensures { (tree : Tree) (c : ClassName) (m : Method) → method_at tree (monitor_class, index) ≡ Some (c, m) → option_map action_named result ≡ action_of c m }
 {
     match index {
         0 => Some(Action::Enter),
@@ -39,7 +39,7 @@ fn monitor_action(index: usize) -> Option<Action>
 }
 
 fn thread_action(index: usize) -> Option<Action>
-    ensures { (tree : Tree) (c : ClassName) (m : Method) → method_at tree (THREAD, index) ≡ Some (c, m) → option_map action_named result ≡ action_of c m }
+    ensures { (tree : Tree) (c : ClassName) (m : Method) → method_at tree (thread_class, index) ≡ Some (c, m) → option_map action_named result ≡ action_of c m }
 {
     match index {
         0 => Some(Action::Construct),
@@ -49,16 +49,21 @@ fn thread_action(index: usize) -> Option<Action>
     }
 }
 
-/// What a call of a method does, by its number: the built-in classes and their members have fixed ones. None for a method with code
-/// of its own. Where no method has the number, any.
-pub(crate) fn action_at(member: MemberNumber) -> Option<Action>
+/// What a call of a method does, by its id: the built-in classes and their members have fixed ones. None for a method with code
+/// of its own. Where no method has the id, any.
+pub(crate) fn action_at(member: MethodId) -> Option<Action>
     ensures { (tree : Tree) (c : ClassName) (m : Method) → method_at tree (member.class, member.index) ≡ Some (c, m) → option_map action_named result ≡ action_of c m }
 {
-    match member.class {
-        OBJECT => Some(Action::Construct),
-        CONSOLE => Some(Action::Write),
-        MONITOR => monitor_action(member.index),
-        THREAD => thread_action(member.index),
-        _ => None,
+    let class = member.class;
+    if class == OBJECT {
+        Some(Action::Construct)
+    } else if class == CONSOLE {
+        Some(Action::Write)
+    } else if class == MONITOR {
+        monitor_action(member.index)
+    } else if class == THREAD {
+        thread_action(member.index)
+    } else {
+        None
     }
 }

@@ -19,7 +19,7 @@ use crate::operands::{array_element, class_of, in_32_bits, literal_address};
 use cil_model::memory::NoMemory;
 use cil_model::sequences::Sequence;
 use class_layout::Layout;
-use name_tables::lookups::MemberNumber;
+use name_tables::ids::{FieldId, MethodId};
 use object_memory::ValueKind;
 use resolved_code::Program;
 use resolved_code::operations::Operation;
@@ -65,7 +65,7 @@ fn copy_of(alloc: Global, indices: &[usize]) -> Result<Sequence<usize>, NoMemory
 
 impl Linker<'_> {
     /// The slot of an instance field, or the number of a static one. Any where it has none of 32 bits.
-    fn slot(&self, field: MemberNumber) -> u32
+    fn slot(&self, field: FieldId) -> u32
         requires { CanLink self.now }
         ensures instance { (n : ℕ) → slot_at self.now.program.now field ≡ Some n → result ≡ n }
         ensures static_field { (n : ℕ) → static_at self.now.program.now field ≡ Some n → result ≡ n }
@@ -77,7 +77,7 @@ impl Linker<'_> {
     }
 
     /// What a field holds. Any where there is no such field.
-    fn kind(&self, field: MemberNumber) -> ValueKind
+    fn kind(&self, field: FieldId) -> ValueKind
         ensures { (kind : AnyKind) → held_at self.now.program.now field ≡ Some kind → result ≡ kind }
     {
         match self.program.field(field) {
@@ -87,7 +87,7 @@ impl Linker<'_> {
     }
 
     /// How many slots the objects of a member's class have. Any where it has none of 32 bits.
-    fn slots(&self, member: MemberNumber) -> u32
+    fn slots(&self, member: MethodId) -> u32
         requires { CanLink self.now }
         ensures { (n : ℕ) → slots_at self.now.program.now member ≡ Some n → result ≡ n }
     {
@@ -95,7 +95,7 @@ impl Linker<'_> {
     }
 
     /// The flat number of a method. Any where no method is there.
-    fn number(&self, member: MemberNumber) -> u32
+    fn number(&self, member: MethodId) -> u32
         requires { CanLink self.now }
         ensures { (n : ℕ) → number_at self.now.program.now member ≡ Some n → result ≡ n }
     {
@@ -103,7 +103,7 @@ impl Linker<'_> {
     }
 
     /// How many operands a call of a method takes, the object counted. Any where no method is there.
-    fn operands(&self, member: MemberNumber) -> usize
+    fn operands(&self, member: MethodId) -> usize
         ensures { (found : ClassName × Method) → method_at self.now.program.now (member.class, member.index) ≡ Some found → result ≡ length (argument_types found.1 found.0) }
     {
         match self.program.method(member) {
@@ -113,13 +113,13 @@ impl Linker<'_> {
     }
 
     /// A virtual call of a method. Any where no method is there.
-    fn virtual_call(&self, member: MemberNumber) -> LinkedInstruction
+    fn virtual_call(&self, member: &MethodId) -> LinkedInstruction
         requires { CanLink self.now }
-        ensures { (required : AnyLinked) → virtual_link self.now.program.now member ≡ Some required → result ≡ required }
+        ensures { (required : AnyLinked) → virtual_link self.now.program.now member.now ≡ Some required → result ≡ required }
     {
         LinkedInstruction::CallVirtual {
-            method: self.number(member),
-            operands: self.operands(member),
+            method: self.number(*member),
+            operands: self.operands(*member),
         }
     }
 
@@ -181,7 +181,7 @@ impl Linker<'_> {
             Operation::CastClass(to) => Ok(LinkedInstruction::CastClass(*to)),
             Operation::IsInstance(to) => Ok(LinkedInstruction::IsInstance(*to)),
             Operation::Call { method, .. } => Ok(LinkedInstruction::Call(self.number(*method))),
-            Operation::CallVirtual { method, .. } => Ok(self.virtual_call(*method)),
+            Operation::CallVirtual { method, .. } => Ok(self.virtual_call(method)),
             Operation::NewObject(constructor) => Ok(LinkedInstruction::NewObject {
                 class: class_of(*constructor),
                 slots: self.slots(*constructor),

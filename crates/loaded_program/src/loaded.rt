@@ -3,7 +3,9 @@
 ghost use Rattle.std.specs.Prelude.{◌≡◌, Some, IsSome, IfOk, slice_get};
 ghost use Rattle.cil_model.specs.declared.trees.Method.{Method};
 ghost use Rattle.cil_model.specs.declared.types.ClassName.{ClassName};
+ghost use Rattle.cil_model.specs.Slots.{target};
 ghost use Rattle.name_tables.specs.Numbers.{method_at};
+ghost use Rattle.resolved_code.specs.ById.{class_name};
 ghost use Rattle.class_layout.specs.Laid.{IsLayout};
 ghost use Rattle.loaded_program.specs.AllMethods.{all_methods};
 ghost use Rattle.loaded_program.specs.MethodNumbers.{number_of};
@@ -14,13 +16,13 @@ use crate::loaded_methods::LoadedMethod;
 use crate::parts::{Parts, item};
 use cil_model::memory::NoMemory;
 use class_layout::Layout;
-use name_tables::lookups::MemberNumber;
+use name_tables::ids::{ClassId, MethodId};
 use resolved_code::Program;
 use std::alloc::Global;
 use std::marker::Model;
 use std::sync::Arc;
 
-/// A legal program with its layout and its methods by flat numbers, whose instructions are linked: a step looks nothing up.
+/// A legal program with its layout and its methods by flat numbers, whose instructions are linked: a step looks up no name.
 ///
 /// It may have several owners, in any threads, who all read the one program.
 pub struct LoadedProgram {
@@ -82,7 +84,7 @@ impl LoadedProgram {
     }
 
     /// The flat number of a method, by its class and its index in it. Any number where there is no such method.
-    pub fn number(&self, member: MemberNumber) -> u32
+    pub fn number(&self, member: MethodId) -> u32
         ensures { (found : ClassName × Method) → method_at self.now (member.class, member.index) ≡ Some found → slice_get (all_methods self.now) result ≡ Some found }
     {
         self.parts.number(member)
@@ -115,10 +117,25 @@ impl LoadedProgram {
 
     /// The flat number of the method that runs where the method with this one is called on an object of a class, or on an array, which has
     /// none (ECMA-335 II.10.3, II.12.2, III.4.2).
-    pub fn target(&self, method: u32, class: Option<usize>) -> u32
+    pub fn target(&self, method: u32, class: Option<ClassId>) -> u32
         requires { IsSome (target_in self.now method class) }
         ensures { slice_get (all_methods self.now) result ≡ target_in self.now method class }
     {
-        self.method(method).targets.number(method, class)
+        match class {
+            Some(class) => self.class_target(self.method(method).member, class),
+            None => method,
+        }
+    }
+
+    /// The flat number of the method that runs where a method, by its class and its index in it, is called on an object of a class. Any number
+    /// where none does.
+    fn class_target(&self, member: MethodId, class: ClassId) -> u32
+        ensures { (found run : ClassName × Method) (c : ClassName) → method_at self.now (member.class, member.index) ≡ Some found → class_name self.now class ≡ Some c →
+            target self.now c found.0 found.1 ≡ Some run → slice_get (all_methods self.now) result ≡ Some run }
+    {
+        match self.layout().target(class, member) {
+            Some(target) => self.number(target),
+            None => u32::MAX,
+        }
     }
 }

@@ -1,42 +1,30 @@
 //! Loaded methods.
 
-ghost use Rattle.std.specs.Prelude.{◌≡◌, Some, IsSome, IfOk, slice_get};
-ghost use Rattle.cil_model.specs.Chains.{is_virtual};
+ghost use Rattle.std.specs.Prelude.{◌≡◌, Some, IfOk, slice_get};
 ghost use Rattle.cil_model.specs.Declarations.{Declaration};
 ghost use Rattle.cil_model.specs.declared.trees.Method.{Method};
-ghost use Rattle.cil_model.specs.declared.trees.MethodKind.{MethodKind};
-ghost use Rattle.cil_model.specs.declared.trees.Tree.{Tree};
 ghost use Rattle.cil_model.specs.declared.types.ClassName.{ClassName};
 ghost use Rattle.name_tables.specs.Numbers.{declarations, method_at};
-ghost use Rattle.resolved_code.specs.Resolved.{AllAlike, IsResolvedKind, IsResolvedMethod};
+ghost use Rattle.resolved_code.specs.Resolved.{AllAlike, IsResolvedMethod};
 ghost use Rattle.loaded_program.specs.AllMethods.{all_methods, owned_methods};
-ghost use Rattle.loaded_program.specs.Loaded.{AreTargets, CanLink, IsLinkedOperation, IsLoadedMethod, IsTarget, operations_of, target_number};
+ghost use Rattle.loaded_program.specs.Loaded.{CanLink, IsLinkedOperation, IsLoadedMethod, operations_of};
 
 use crate::actions::{Action, action_at};
 use crate::instructions::LinkedInstruction;
 use crate::linker::{Linker, constants_are_small};
 use crate::methods::{argument_count, local_kinds};
 use cil_model::memory::NoMemory;
-use name_tables::lookups::MemberNumber;
+use name_tables::ids::{ClassId, MethodId};
 use object_memory::ValueKind;
 use resolved_code::classes::{ResolvedKind, ResolvedMethod};
 use resolved_code::operations::Operation;
 use std::alloc::Global;
 
-/// Which method runs where one is called on an object, by flat numbers.
-#[derive(Drop)]
-pub(crate) enum Targets {
-    /// The method itself, on any object: it is not virtual.
-    Itself,
-    /// By the number of the object's class.
-    ByClass(Vec<u32>),
-}
-
 /// A method with what its calls and its steps need (ECMA-335 II.15).
 #[derive(Drop)]
 pub struct LoadedMethod {
     /// Its class, and its index in the class.
-    pub member: MemberNumber,
+    pub member: MethodId,
     /// How many operands a call takes, `this` counted.
     pub arguments: usize,
     /// What the locals hold, in their order; none where it has no code.
@@ -47,21 +35,6 @@ pub struct LoadedMethod {
     pub action: Option<Action>,
     /// Its linked instructions, in the order of its lines; none where it has no code.
     pub(crate) code: Vec<LinkedInstruction>,
-    /// Which method runs where it is called on an object.
-    pub(crate) targets: Targets,
-}
-
-impl Targets {
-    /// The method that runs for the method with a flat number, where it is called on an object of a class, or on an array, which has none.
-    pub fn number(&self, method: u32, class: Option<usize>) -> u32
-        requires { IsSome (target_number self.now method class) }
-        ensures { target_number self.now method class ≡ Some result }
-    {
-        match (self, class) {
-            (Targets::ByClass(row), Some(class)) => row.as_slice()[class],
-            _ => method,
-        }
-    }
 }
 
 /// The operations of a method's body; none where it has no code.
@@ -73,60 +46,6 @@ fn operations_of(kind: &ResolvedKind) -> &[Operation]
         | ResolvedKind::Instance(body)
         | ResolvedKind::Virtual { body, .. } => body.operations.as_slice(),
         ResolvedKind::Abstract { .. } => &[],
-    }
-}
-
-/// Whether a method is virtual; an abstract one is too (ECMA-335 II.15.4.2).
-fn is_virtual(kind: &ResolvedKind) -> bool
-    ensures { (tree : Tree) (named : MethodKind) → IsResolvedKind tree named kind.now → result ≡ is_virtual named }
-{
-    match kind {
-        ResolvedKind::Static(_) | ResolvedKind::Instance(_) => false,
-        ResolvedKind::Virtual { .. } | ResolvedKind::Abstract { .. } => true,
-    }
-}
-
-/// The flat number of the method that runs where one is called on objects of a class (ECMA-335 II.10.3, II.12.2). Any where none does.
-fn class_target(linker: &Linker, class: usize, method: MemberNumber) -> u32
-    requires { CanLink linker.now }
-    ensures { (e : ClassName × Declaration) (found : ClassName × Method) → slice_get (declarations linker.now.program.now) class ≡ Some e →
-        method_at linker.now.program.now (method.class, method.index) ≡ Some found → IsTarget linker.now.program.now found e.0 result }
-{
-    match linker.layout.target(class, method) {
-        Some(target) => linker.numbers.number(target),
-        None => u32::MAX,
-    }
-}
-
-/// The same for the objects of each class. The only error is out of memory.
-fn target_row(alloc: Global, linker: &Linker, method: MemberNumber) -> Result<Vec<u32>, NoMemory>
-    requires { CanLink linker.now }
-    ensures { IfOk result (λ row. (found : ClassName × Method) → method_at linker.now.program.now (method.class, method.index) ≡ Some found →
-        AllAlike (λ (e : ClassName × Declaration) number. IsTarget linker.now.program.now found e.0 number) (declarations linker.now.program.now) row.items) }
-{
-    let classes = linker.program.classes();
-    let mut row = Vec::with_capacity(alloc, classes.len())?;
-    for class in 0..classes.len() {
-        row.push(class_target(linker, class, method))?;
-    }
-    Ok(row)
-}
-
-/// Which method runs where one is called on an object. The only error is out of memory.
-fn method_targets(
-    alloc: Global,
-    linker: &Linker,
-    method: MemberNumber,
-    kind: &ResolvedKind,
-) -> Result<Targets, NoMemory>
-    requires { CanLink linker.now }
-    ensures { IfOk result (λ targets. (found : ClassName × Method) → method_at linker.now.program.now (method.class, method.index) ≡ Some found →
-        IsResolvedKind linker.now.program.now found.1.kind kind.now → AreTargets linker.now.program.now found targets) }
-{
-    if is_virtual(kind) {
-        Ok(Targets::ByClass(target_row(alloc, linker, method)?))
-    } else {
-        Ok(Targets::Itself)
     }
 }
 
@@ -149,11 +68,11 @@ fn linked_code(
 }
 
 impl LoadedMethod {
-    /// The method with this number, loaded. The only error is out of memory.
+    /// The method with this id, loaded. The only error is out of memory.
     fn new(
         alloc: Global,
         linker: &Linker,
-        member: MemberNumber,
+        member: MethodId,
         method: &ResolvedMethod,
     ) -> Result<Self, NoMemory>
         requires { CanLink linker.now }
@@ -169,16 +88,15 @@ impl LoadedMethod {
             has_value,
             action: action_at(member),
             code: linked_code(alloc, linker, has_value, operations)?,
-            targets: method_targets(alloc, linker, member, &method.kind)?,
         })
     }
 }
 
-/// The methods of the class with this number, loaded, in their order. The only error is out of memory.
+/// The methods of the class with this id, loaded, in their order. The only error is out of memory.
 fn class_methods(
     alloc: Global,
     linker: &Linker,
-    class: usize,
+    class: ClassId,
     methods: &[ResolvedMethod],
 ) -> Result<Vec<LoadedMethod>, NoMemory>
     requires { CanLink linker.now }
@@ -187,7 +105,7 @@ fn class_methods(
 {
     let mut loaded = Vec::with_capacity(alloc, methods.len())?;
     for index in 0..methods.len() {
-        let member = MemberNumber { class, index };
+        let member = MethodId { class, index };
         loaded.push(LoadedMethod::new(alloc, linker, member, &methods[index])?)?;
     }
     Ok(loaded)
@@ -201,7 +119,12 @@ pub(crate) fn all_methods(alloc: Global, linker: &Linker) -> Result<Vec<LoadedMe
     let classes = linker.program.classes();
     let mut loaded = Vec::new(alloc);
     for class in 0..classes.len() {
-        let mut more = class_methods(alloc, linker, class, classes[class].methods.as_slice())?;
+        let mut more = class_methods(
+            alloc,
+            linker,
+            ClassId::new(class),
+            classes[class].methods.as_slice(),
+        )?;
         loaded.append(&mut more)?;
     }
     Ok(loaded)

@@ -10,7 +10,7 @@ ghost use Rattle.loaded_program.specs.AllMethods.{flat_number};
 ghost use Rattle.loaded_program.specs.ResolvedKinds.{running_counts};
 
 use cil_model::memory::NoMemory;
-use name_tables::lookups::MemberNumber;
+use name_tables::ids::{ClassId, MethodId};
 use resolved_code::Program;
 use resolved_code::classes::ResolvedClass;
 use std::alloc::Global;
@@ -54,10 +54,10 @@ fn number_from(first: u32, index: usize) -> u32
     }
 }
 
-fn first_at(first: &[u32], class: usize) -> Option<u32>
+fn first_at(first: &[u32], class: ClassId) -> Option<u32>
     ensures { result ≡ slice_get first.now class }
 {
-    first.get(class).copied()
+    first.get(class.number()).copied()
 }
 
 impl MethodNumbers {
@@ -76,7 +76,7 @@ impl MethodNumbers {
 
     /// The flat number of a method, by its class and its index in it. Where there is no such method, any number. Takes constant time, and
     /// no memory.
-    pub fn number(&self, member: MemberNumber) -> u32
+    pub fn number(&self, member: MethodId) -> u32
         ensures { (tree : Tree) → AreMethodNumbers tree self.now → (found : ClassName × Method) → method_at tree (member.class, member.index) ≡ Some found → result ≡ flat_number tree member.class member.index }
     {
         match first_at(self.first.as_slice(), member.class) {

@@ -8,7 +8,7 @@ ghost use Rattle.object_memory.specs.declared.kinds.ElementType.{ElementType as 
 ghost use Rattle.object_memory.specs.Cells.{literal};
 ghost use Rattle.loaded_program.specs.Operands.{array_held, class_in, element_held};
 
-use name_tables::lookups::MemberNumber;
+use name_tables::ids::MethodId;
 use object_memory::{Addr, ArrayElement, ElementType};
 use resolved_code::types::{ResolvedElement, ResolvedType};
 
@@ -46,10 +46,10 @@ fn in_8_bits(number: u32) -> u8
 }
 
 /// The number of a member's class. Any where it has more than 16 bits.
-pub(crate) fn class_of(member: MemberNumber) -> u16
+pub(crate) fn class_of(member: MethodId) -> u16
     ensures { (n : ℕ) → class_in member ≡ Some n → result ≡ n }
 {
-    in_16_bits(member.class)
+    in_16_bits(member.class.number())
 }
 
 /// The address of a literal. Null where no literal can have this number.

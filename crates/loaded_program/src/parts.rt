@@ -15,12 +15,12 @@ use crate::loaded_methods::{LoadedMethod, all_methods};
 use crate::numbers::MethodNumbers;
 use cil_model::memory::NoMemory;
 use class_layout::Layout;
-use name_tables::lookups::MemberNumber;
+use name_tables::ids::MethodId;
 use resolved_code::Program;
 use std::alloc::Global;
 use std::marker::Model;
 
-/// A legal program with its layout and its methods by flat numbers, whose instructions are linked: a step looks nothing up.
+/// A legal program with its layout and its methods by flat numbers, whose instructions are linked: a step looks up no name.
 pub(crate) struct Parts {
     program: Program,
     layout: Layout,
@@ -110,7 +110,7 @@ impl Parts {
     }
 
     /// The flat number of a method, by its class and its index in it. Any number where there is no such method.
-    pub fn number(&self, member: MemberNumber) -> u32
+    pub fn number(&self, member: MethodId) -> u32
         ensures { (found : ClassName × Method) → method_at self.now (member.class, member.index) ≡ Some found → slice_get (all_methods self.now) result ≡ Some found }
     {
         self.numbers.number(member)

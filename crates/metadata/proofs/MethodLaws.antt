@@ -13,7 +13,7 @@ use Rattle.cil_model.specs.Chains.{longest_chain, is_virtual, is_abstract_method
 use Rattle.inheritance.specs.Lines.{base_in, line_within, Ends}
 use Rattle.inheritance.specs.Marked.{is_marked}
 use Rattle.inheritance.proofs.LineLaws.{line_of_none, line_step, line_of_base}
-use Rattle.name_tables.specs.declared.lookups.MemberNumber.{MemberNumber}
+use Rattle.name_tables.specs.declared.ids.MethodId.{MethodId}
 use Rattle.name_tables.specs.Members.{base_numbers}
 use Rattle.name_tables.specs.Methods.{method_index, has_virtual, virtuals_of, virtual_index, line_of, methods_at}
 use Rattle.name_tables.specs.Numbers.{declarations, class_number, nearest_number, method_found}
@@ -78,7 +78,7 @@ pub plain_next : (tree : Tree) (k : MethodIdentity) (bases : List (Option ℕ)) 
 plain_next tree k bases left next class e h = ap (λ o. concrete_by_id tree k (line_within bases left o)) e ∙ ap (concrete_by_id tree k) (line_step bases left class h)
 
 -- the test of a class that is found, by its number and index
-pub of_pair : (g : ℕ → Bool) (o : Option MemberNumber) → option_map_or (λ m. g m.class) o false ≡ option_map_or (λ (p : ℕ × ℕ). g p.0) (option_map (λ m. (m.class, m.index)) o) false
+pub of_pair : (g : ℕ → Bool) (o : Option MethodId) → option_map_or (λ m. g m.class) o false ≡ option_map_or (λ (p : ℕ × ℕ). g p.0) (option_map (λ m. (m.class, m.index)) o) false
 of_pair g None = refl
 of_pair g (Some m) = refl
 

@@ -9,12 +9,13 @@ ghost use Rattle.name_tables.specs.Methods.{line_of};
 use cil_model::memory::NoMemory;
 use cil_model::trees::Class;
 use inheritance::least_own_base;
+use name_tables::ids::ClassId;
 use name_tables::keys::ClassKey;
 use name_tables::lookups::NameTables;
 use std::alloc::Global;
 
 /// Whether a class is met from another one on along its bases.
-fn is_along(names: &NameTables, first: Option<usize>, required: usize) -> bool
+fn is_along(names: &NameTables, first: Option<ClassId>, required: ClassId) -> bool
     ensures { result ≡ list_any (λ n. n == required) (line_of names.now.classes.tree.now first) }
 {
     let mut next = first;

@@ -17,14 +17,15 @@ use cil_model::memory::NoMemory;
 use cil_model::trees::{Class, Method};
 use cil_model::types::ClassName;
 use inheritance::Cyclic;
+use name_tables::ids::ClassId;
 use name_tables::keys::{ClassKey, MethodKey};
 use name_tables::kinds::is_virtual;
 use name_tables::lookups::NameTables;
 use name_tables::methods::MethodTables;
 use std::alloc::Global;
 
-/// Whether the class of a number has a virtual method of this name and signature.
-fn has_virtual(names: &NameTables, class: usize, key: MethodKey) -> bool
+/// Whether a class has a virtual method of this name and signature.
+fn has_virtual(names: &NameTables, class: ClassId, key: MethodKey) -> bool
     ensures { result ≡ is_virtual_found names.now.classes.tree.now (method_of_key key.entry) class }
 {
     match names.classes.method(class, key) {
@@ -34,7 +35,7 @@ fn has_virtual(names: &NameTables, class: usize, key: MethodKey) -> bool
 }
 
 /// Whether a class from one on along its bases has a virtual method of this name and signature.
-fn has_virtual_along(names: &NameTables, first: usize, key: MethodKey) -> bool
+fn has_virtual_along(names: &NameTables, first: ClassId, key: MethodKey) -> bool
     ensures { result ≡ list_any (is_virtual_found names.now.classes.tree.now (method_of_key key.entry)) (line_of names.now.classes.tree.now (Some first)) }
 {
     let mut next = Some(first);
@@ -54,25 +55,25 @@ fn has_virtual_along(names: &NameTables, first: usize, key: MethodKey) -> bool
 
 /// Whether some class from one on along its bases has a virtual method of this name and signature (ECMA-335 II.12.2). Only where the
 /// bases do not end are they followed.
-fn implements_method(methods: &MethodTables, class: Option<usize>, key: MethodKey) -> bool
-    ensures { result ≡ list_any (is_virtual_found methods.now.names.now.classes.tree.now (method_of_key key.entry)) (line_of methods.now.names.now.classes.tree.now class) }
+fn implements_method(methods: &MethodTables, class: &Option<ClassId>, key: MethodKey) -> bool
+    ensures { result ≡ list_any (is_virtual_found methods.now.names.now.classes.tree.now (method_of_key key.entry)) (line_of methods.now.names.now.classes.tree.now class.now) }
 {
     let Some(class) = class else {
         return false;
     };
-    match methods.has_virtual(class, key) {
+    match methods.has_virtual(*class, key) {
         Ok(found) => found,
-        Err(Cyclic) => has_virtual_along(methods.names, class, key),
+        Err(Cyclic) => has_virtual_along(methods.names, *class, key),
     }
 }
 
 /// The first of these methods for which no class from one on has a virtual one.
 fn absent_method(
     methods: &MethodTables,
-    class: Option<usize>,
+    class: &Option<ClassId>,
     required: &[&Method],
 ) -> Option<usize>
-    ensures { is_none result ≡ list_all (λ m. list_any (is_virtual_found methods.now.names.now.classes.tree.now (identity_of m)) (line_of methods.now.names.now.classes.tree.now class)) (map (λ m. m.now) required.now) }
+    ensures { is_none result ≡ list_all (λ m. list_any (is_virtual_found methods.now.names.now.classes.tree.now (identity_of m)) (line_of methods.now.names.now.classes.tree.now class.now)) (map (λ m. m.now) required.now) }
 {
     for (index, method) in required.iter().enumerate() {
         let key = MethodKey::new(&method.name, &method.signature);
@@ -83,9 +84,13 @@ fn absent_method(
     None
 }
 
-/// The first method of the class of a number for which no class from one on has a virtual one, by looking each up by its name.
-fn absent_by_name(methods: &MethodTables, class: Option<usize>, interface: usize) -> Option<usize>
-    ensures { is_none result ≡ has_all methods.now.names.now.classes.tree.now class interface }
+/// The first method of an interface for which no class from one on has a virtual one, by looking each up by its name.
+fn absent_by_name(
+    methods: &MethodTables,
+    class: &Option<ClassId>,
+    interface: ClassId,
+) -> Option<usize>
+    ensures { is_none result ≡ has_all methods.now.names.now.classes.tree.now class.now interface }
 {
     match methods.names.classes.class(interface) {
         None => None,
@@ -94,13 +99,13 @@ fn absent_by_name(methods: &MethodTables, class: Option<usize>, interface: usize
 }
 
 /// The same; only where the class's bases do not end are the methods looked up by name.
-fn absent_at(methods: &MethodTables, class: Option<usize>, interface: usize) -> Option<usize>
-    ensures { is_none result ≡ has_all methods.now.names.now.classes.tree.now class interface }
+fn absent_at(methods: &MethodTables, class: &Option<ClassId>, interface: ClassId) -> Option<usize>
+    ensures { is_none result ≡ has_all methods.now.names.now.classes.tree.now class.now interface }
 {
-    let Some(number) = class else {
+    let Some(first) = class else {
         return absent_by_name(methods, class, interface);
     };
-    match methods.first_absent(interface, number) {
+    match methods.first_absent(interface, *first) {
         Ok(index) => index,
         Err(Cyclic) => absent_by_name(methods, class, interface),
     }
@@ -110,14 +115,14 @@ fn absent_at(methods: &MethodTables, class: Option<usize>, interface: usize) -> 
 fn absent_from(
     methods: &MethodTables,
     tables: &[Vec<bool>],
-    class: Option<usize>,
-    interface: usize,
+    class: &Option<ClassId>,
+    interface: ClassId,
 ) -> Option<usize>
     requires { AreTables methods.now.names.now.classes.tree.now tables.now }
-    ensures { is_none result ≡ has_all methods.now.names.now.classes.tree.now class interface }
+    ensures { is_none result ≡ has_all methods.now.names.now.classes.tree.now class.now interface }
 {
     match class {
-        Some(number) if is_reported(tables, number, interface) => None,
+        Some(first) if is_reported(tables, *first, interface) => None,
         _ => absent_at(methods, class, interface),
     }
 }
@@ -126,15 +131,15 @@ fn absent_from(
 fn absent_in(
     methods: &MethodTables,
     tables: &[Vec<bool>],
-    class: Option<usize>,
+    class: &Option<ClassId>,
     interface: &ClassName,
 ) -> Option<usize>
     requires { AreTables methods.now.names.now.classes.tree.now tables.now }
-    ensures { is_none result ≡ list_all (λ m. list_any (is_virtual_found methods.now.names.now.classes.tree.now (identity_of m)) (line_of methods.now.names.now.classes.tree.now class)) (methods_declared methods.now.names.now.classes.tree.now interface.now) }
+    ensures { is_none result ≡ list_all (λ m. list_any (is_virtual_found methods.now.names.now.classes.tree.now (identity_of m)) (line_of methods.now.names.now.classes.tree.now class.now)) (methods_declared methods.now.names.now.classes.tree.now interface.now) }
 {
     match methods.names.classes.number(ClassKey::of(interface)) {
         None => None,
-        Some(number) => absent_from(methods, tables, class, number),
+        Some(interface) => absent_from(methods, tables, class, interface),
     }
 }
 
@@ -142,11 +147,11 @@ fn absent_in(
 fn absent_in_list(
     methods: &MethodTables,
     tables: &[Vec<bool>],
-    class: Option<usize>,
+    class: &Option<ClassId>,
     interfaces: &[ClassName],
 ) -> Option<ListedMethod>
     requires { AreTables methods.now.names.now.classes.tree.now tables.now }
-    ensures { is_none result ≡ list_all (λ i. list_all (λ m. list_any (is_virtual_found methods.now.names.now.classes.tree.now (identity_of m)) (line_of methods.now.names.now.classes.tree.now class)) (methods_declared methods.now.names.now.classes.tree.now i)) interfaces.now }
+    ensures { is_none result ≡ list_all (λ i. list_all (λ m. list_any (is_virtual_found methods.now.names.now.classes.tree.now (identity_of m)) (line_of methods.now.names.now.classes.tree.now class.now)) (methods_declared methods.now.names.now.classes.tree.now i)) interfaces.now }
 {
     for (interface, name) in interfaces.iter().enumerate() {
         if let Some(method) = absent_in(methods, tables, class, name) {
@@ -166,7 +171,7 @@ fn absent_in_class(
     ensures { is_none result ≡ implements_all methods.now.names.now.classes.tree.now class.now }
 {
     let own = methods.names.classes.number(ClassKey::of_source(class));
-    absent_in_list(methods, tables, own, interfaces_named(&class.kind))
+    absent_in_list(methods, tables, &own, interfaces_named(&class.kind))
 }
 
 /// The first class that lacks a method of an interface that it lists; none where there is none (number 204). The only error is out of

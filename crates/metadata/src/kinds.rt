@@ -18,16 +18,17 @@ use cil_model::memory::NoMemory;
 use cil_model::trees::{Class, ClassKind, Method};
 use inheritance::Cyclic;
 use name_tables::classes::method_members;
+use name_tables::ids::{ClassId, MethodId};
 use name_tables::keys::{ClassKey, MethodKey};
 use name_tables::kinds::{is_abstract_method, is_new_slot_method, is_virtual};
-use name_tables::lookups::{MemberNumber, NameTables};
+use name_tables::lookups::NameTables;
 use name_tables::methods::MethodTables;
 use std::alloc::Global;
 
-// ---- slots along a chain: each is known by the number of the class that introduced it
+// ---- slots along a chain: each is known by the class that introduced it
 
 /// The slot that a method of a class fills over the one that it inherits (ECMA-335 II.10.3).
-fn slot_filled(class: usize, inherited: Option<usize>, method: &Method) -> Option<usize>
+fn slot_filled(class: ClassId, inherited: Option<ClassId>, method: &Method) -> Option<ClassId>
     ensures { result ≡ slot_filled_at class inherited method.now }
 {
     if !is_virtual(&method.kind) {
@@ -43,9 +44,9 @@ fn slot_filled(class: usize, inherited: Option<usize>, method: &Method) -> Optio
 fn slot_over(
     names: &NameTables,
     key: MethodKey,
-    class: usize,
-    inherited: Option<usize>,
-) -> Option<usize>
+    class: ClassId,
+    inherited: Option<ClassId>,
+) -> Option<ClassId>
     ensures { result ≡ slot_over names.now.classes.tree.now (method_of_key key.entry) class inherited }
 {
     match names.classes.method(class, key) {
@@ -55,7 +56,7 @@ fn slot_over(
 }
 
 /// The slot that the nearest method of this name and signature along a chain fills.
-fn slot_along(names: &NameTables, key: MethodKey, chain: &[usize]) -> Option<usize>
+fn slot_along(names: &NameTables, key: MethodKey, chain: &[ClassId]) -> Option<ClassId>
     ensures { result ≡ slot_by_id names.now.classes.tree.now (method_of_key key.entry) chain.now }
 {
     let mut slot = None;
@@ -65,18 +66,18 @@ fn slot_along(names: &NameTables, key: MethodKey, chain: &[usize]) -> Option<usi
     slot
 }
 
-fn is_slot(slot: Option<usize>, required: usize) -> bool
-    ensures { result ≡ option_map_or (λ n. n == required) slot false }
+fn is_slot(slot: &Option<ClassId>, required: ClassId) -> bool
+    ensures { result ≡ option_map_or (λ n. n == required) slot.now false }
 {
     match slot {
         None => false,
-        Some(number) => number == required,
+        Some(class) => *class == required,
     }
 }
 
 /// Whether an abstract method fills a slot as seen from a class, where it is known as seen from its base. `fills` says
 /// whether the class's method of the slot's name and signature fills that very slot.
-fn open_over(names: &NameTables, key: MethodKey, class: usize, fills: bool, is_open: bool) -> bool
+fn open_over(names: &NameTables, key: MethodKey, class: ClassId, fills: bool, is_open: bool) -> bool
     ensures { result ≡ open_over names.now.classes.tree.now (method_of_key key.entry) class fills is_open }
 {
     if !fills {
@@ -89,20 +90,25 @@ fn open_over(names: &NameTables, key: MethodKey, class: usize, fills: bool, is_o
 }
 
 /// Whether the nearest method along a chain that fills a slot is abstract.
-fn is_open(names: &NameTables, key: MethodKey, chain: &[usize], required: usize) -> bool
+fn is_open(names: &NameTables, key: MethodKey, chain: &[ClassId], required: ClassId) -> bool
     ensures { result ≡ open_by_id names.now.classes.tree.now (method_of_key key.entry) required chain.now }
 {
     let mut slot = None;
     let mut is_open = false;
     for index in (0..chain.len()).rev() {
         slot = slot_over(names, key, chain[index], slot);
-        is_open = open_over(names, key, chain[index], is_slot(slot, required), is_open);
+        is_open = open_over(names, key, chain[index], is_slot(&slot, required), is_open);
     }
     is_open
 }
 
 /// Whether a slot that is known along one chain is filled by an abstract method along another.
-fn is_left_open(names: &NameTables, key: MethodKey, chain: &[usize], introduced: &[usize]) -> bool
+fn is_left_open(
+    names: &NameTables,
+    key: MethodKey,
+    chain: &[ClassId],
+    introduced: &[ClassId],
+) -> bool
     ensures { result ≡ is_left_open names.now.classes.tree.now (method_of_key key.entry) chain.now introduced.now }
 {
     match slot_along(names, key, introduced) {
@@ -113,8 +119,8 @@ fn is_left_open(names: &NameTables, key: MethodKey, chain: &[usize], introduced:
 
 fn method_leaves_open(
     names: &NameTables,
-    chain: &[usize],
-    introduced: &[usize],
+    chain: &[ClassId],
+    introduced: &[ClassId],
     method: &Method,
 ) -> bool
     ensures { result ≡ method_leaves_open names.now.classes.tree.now chain.now introduced.now method.now }
@@ -129,8 +135,8 @@ fn method_leaves_open(
 /// The first of a class's methods whose slot is filled by an abstract method along a chain.
 fn method_left_open(
     names: &NameTables,
-    chain: &[usize],
-    introduced: &[usize],
+    chain: &[ClassId],
+    introduced: &[ClassId],
     methods: &[&Method],
 ) -> Option<usize>
     ensures { is_some result ≡ list_any (method_leaves_open names.now.classes.tree.now chain.now introduced.now) (map (λ m. m.now) methods.now) }
@@ -143,13 +149,13 @@ fn method_left_open(
     None
 }
 
-/// The first method of the class of a number whose slot is filled by an abstract method along a chain.
+/// The first method of a class whose slot is filled by an abstract method along a chain.
 fn left_open_by(
     alloc: Global,
     names: &NameTables,
-    chain: &[usize],
-    class: usize,
-) -> Result<Option<MemberNumber>, NoMemory>
+    chain: &[ClassId],
+    class: ClassId,
+) -> Result<Option<MethodId>, NoMemory>
     ensures { IfOk result (λ found. is_some found ≡ class_leaves_open names.now.classes.tree.now chain.now class) }
 {
     let Some(declared) = names.classes.class(class) else {
@@ -159,7 +165,7 @@ fn left_open_by(
     let methods = declared.methods.as_slice();
     match method_left_open(names, chain, introduced.as_slice(), methods) {
         None => Ok(None),
-        Some(index) => Ok(Some(MemberNumber { class, index })),
+        Some(index) => Ok(Some(MethodId { class, index })),
     }
 }
 
@@ -167,9 +173,9 @@ fn left_open_by(
 fn first_left_open(
     alloc: Global,
     names: &NameTables,
-    chain: &[usize],
-    classes: &[usize],
-) -> Result<Option<MemberNumber>, NoMemory>
+    chain: &[ClassId],
+    classes: &[ClassId],
+) -> Result<Option<MethodId>, NoMemory>
     ensures { IfOk result (λ found. is_some found ≡ list_any (class_leaves_open names.now.classes.tree.now chain.now) classes.now) }
 {
     for class in classes {
@@ -185,9 +191,9 @@ fn first_left_open(
 fn left_open_in(
     alloc: Global,
     names: &NameTables,
-    chain: &[usize],
-    class: usize,
-) -> Result<Option<MemberNumber>, NoMemory>
+    chain: &[ClassId],
+    class: ClassId,
+) -> Result<Option<MethodId>, NoMemory>
     ensures { IfOk result (λ found. is_some found ≡ true → list_any (class_leaves_open names.now.classes.tree.now chain.now) chain.now ≡ true) }
 {
     for along in chain {
@@ -202,8 +208,8 @@ fn left_open_in(
 fn open_suspect(
     alloc: Global,
     slots: &OpenSlots,
-    chain: &[usize],
-) -> Result<Option<MemberNumber>, NoMemory>
+    chain: &[ClassId],
+) -> Result<Option<MethodId>, NoMemory>
     ensures { IfOk result (λ found. is_some found ≡ true → list_any (class_leaves_open slots.now.methods.now.names.now.classes.tree.now chain.now) chain.now ≡ true) }
 {
     match slots.suspect(chain) {
@@ -216,8 +222,8 @@ fn open_suspect(
 fn open_along(
     alloc: Global,
     slots: &OpenSlots,
-    chain: &[usize],
-) -> Result<Option<MemberNumber>, NoMemory>
+    chain: &[ClassId],
+) -> Result<Option<MethodId>, NoMemory>
     ensures { IfOk result (λ found. is_some found ≡ list_any (class_leaves_open slots.now.methods.now.names.now.classes.tree.now chain.now) chain.now) }
 {
     if let Some(open) = open_suspect(alloc, slots, chain)? {
@@ -230,8 +236,8 @@ fn open_along(
 fn slot_left_open(
     alloc: Global,
     slots: &OpenSlots,
-    class: usize,
-) -> Result<Option<MemberNumber>, NoMemory>
+    class: ClassId,
+) -> Result<Option<MethodId>, NoMemory>
     ensures { IfOk result (λ found. is_some found ≡ list_any (class_leaves_open slots.now.methods.now.names.now.classes.tree.now (line_of slots.now.methods.now.names.now.classes.tree.now (Some class))) (line_of slots.now.methods.now.names.now.classes.tree.now (Some class))) }
 {
     let names = slots.methods.names;
@@ -246,7 +252,7 @@ fn abstract_slot(
     alloc: Global,
     slots: &OpenSlots,
     class: ClassKey,
-) -> Result<Option<MemberNumber>, NoMemory>
+) -> Result<Option<MethodId>, NoMemory>
     ensures { IfOk result (λ found. is_some found ≡ has_abstract_slot slots.now.methods.now.names.now.classes.tree.now (class_of_key class.entry)) }
 {
     let Some(number) = slots.methods.names.classes.number(class) else {
@@ -260,8 +266,8 @@ fn abstract_slot(
 
 // ---- methods without newslot
 
-/// The number of a class's base.
-fn base_number(names: &NameTables, class: &Class) -> Option<usize>
+/// A class's base.
+fn base_id(names: &NameTables, class: &Class) -> Option<ClassId>
     ensures { result ≡ option_and_then (class_number names.now.classes.tree.now) (base_of names.now.classes.tree.now (source_name class.now)) }
 {
     match names.classes.number(ClassKey::of_source(class)) {
@@ -271,7 +277,7 @@ fn base_number(names: &NameTables, class: &Class) -> Option<usize>
 }
 
 /// The class of a method, unless that is virtual.
-fn unless_virtual(class: usize, method: &Method) -> Option<usize>
+fn unless_virtual(class: ClassId, method: &Method) -> Option<ClassId>
     ensures { is_some result ≡ not (is_virtual method.now.kind) }
 {
     if is_virtual(&method.kind) {
@@ -281,7 +287,7 @@ fn unless_virtual(class: usize, method: &Method) -> Option<usize>
 }
 
 /// The class from one on along its bases with the nearest method of this name and signature, where that is not virtual.
-fn plain_along(names: &NameTables, key: MethodKey, first: usize) -> Option<usize>
+fn plain_along(names: &NameTables, key: MethodKey, first: ClassId) -> Option<ClassId>
     ensures { is_some result ≡ concrete_by_id names.now.classes.tree.now (method_of_key key.entry) (line_of names.now.classes.tree.now (Some first)) }
 {
     let mut next = Some(first);
@@ -299,8 +305,8 @@ fn plain_along(names: &NameTables, key: MethodKey, first: usize) -> Option<usize
     None
 }
 
-/// The class of a number, where its method of this name and signature is not virtual.
-fn plain_at(names: &NameTables, key: MethodKey, class: usize) -> Option<usize>
+/// A class, where its method of this name and signature is not virtual.
+fn plain_at(names: &NameTables, key: MethodKey, class: ClassId) -> Option<ClassId>
     ensures { is_some result ≡ option_map_or (λ m. not (is_virtual m.kind)) (method_found names.now.classes.tree.now (method_of_key key.entry) class) false }
 {
     match names.classes.method(class, key) {
@@ -310,7 +316,7 @@ fn plain_at(names: &NameTables, key: MethodKey, class: usize) -> Option<usize>
 }
 
 /// The class that a look-up found, where its method of this name and signature is not virtual.
-fn plain_found(names: &NameTables, key: MethodKey, found: Option<MemberNumber>) -> Option<usize>
+fn plain_found(names: &NameTables, key: MethodKey, found: Option<MethodId>) -> Option<ClassId>
     ensures { is_some result ≡ option_map_or (λ f. option_map_or (λ m. not (is_virtual m.kind)) (method_found names.now.classes.tree.now (method_of_key key.entry) f.class) false) found false }
 {
     match found {
@@ -321,7 +327,7 @@ fn plain_found(names: &NameTables, key: MethodKey, found: Option<MemberNumber>) 
 
 /// The class from one on along its bases with the nearest method of this name and signature, where that is not virtual. Only where the
 /// bases do not end are they followed.
-fn plain_base(methods: &MethodTables, key: MethodKey, base: Option<usize>) -> Option<usize>
+fn plain_base(methods: &MethodTables, key: MethodKey, base: Option<ClassId>) -> Option<ClassId>
     ensures { is_some result ≡ concrete_by_id methods.now.names.now.classes.tree.now (method_of_key key.entry) (line_of methods.now.names.now.classes.tree.now base) }
 {
     let Some(base) = base else {
@@ -334,7 +340,7 @@ fn plain_base(methods: &MethodTables, key: MethodKey, base: Option<usize>) -> Op
 }
 
 /// The class whose method, which is not virtual, a virtual one without newslot would override (ECMA-335 II.10.3.1, this profile).
-fn plain_below(methods: &MethodTables, class: &Class, method: &Method) -> Option<usize>
+fn plain_below(methods: &MethodTables, class: &Class, method: &Method) -> Option<ClassId>
     ensures { is_some result ≡ overrides_no_virtual methods.now.names.now.classes.tree.now (source_name class.now) method.now }
 {
     if !is_virtual(&method.kind) {
@@ -344,7 +350,7 @@ fn plain_below(methods: &MethodTables, class: &Class, method: &Method) -> Option
         return None;
     }
     let key = MethodKey::new(&method.name, &method.signature);
-    plain_base(methods, key, base_number(methods.names, class))
+    plain_base(methods, key, base_id(methods.names, class))
 }
 
 /// The first virtual method without newslot over one that is not virtual.

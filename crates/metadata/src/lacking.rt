@@ -7,6 +7,7 @@ use crate::duplicates::interfaces_named;
 use cil_model::memory::NoMemory;
 use cil_model::types::ClassName;
 use name_tables::classes::DeclaredClass;
+use name_tables::ids::ClassId;
 use name_tables::keys::ClassKey;
 use name_tables::lookups::NameTables;
 use name_tables::methods::MethodTables;
@@ -23,8 +24,9 @@ struct Listings {
 fn count_listed(names: &NameTables, interfaces: &[ClassName], times: &mut Vec<usize>) {
     for name in interfaces {
         if let Some(interface) = names.classes.number(ClassKey::of(name)) {
-            if interface < times.len() {
-                times[interface] = times[interface].saturating_add(1);
+            let number = interface.number();
+            if number < times.len() {
+                times[number] = times[number].saturating_add(1);
             }
         }
     }
@@ -47,7 +49,8 @@ impl Listings {
         }
         let mut declarations = count;
         for class in 0..count {
-            declarations = declarations.saturating_add(method_count(names.classes.class(class)));
+            let declared = names.classes.class(ClassId::new(class));
+            declarations = declarations.saturating_add(method_count(declared));
         }
         Ok(Listings {
             times,
@@ -57,9 +60,9 @@ impl Listings {
 
     /// Whether looking up each method of an interface for each class that lists it takes longer than looking at all classes at once. That
     /// takes some steps for each declaration, of which a look-up takes as long as four.
-    fn are_many(&self, names: &NameTables, interface: usize) -> bool {
+    fn are_many(&self, names: &NameTables, interface: ClassId) -> bool {
         let methods = method_count(names.classes.class(interface));
-        match self.times.get(interface) {
+        match self.times.get(interface.number()) {
             None => false,
             Some(times) => times.saturating_mul(methods) > self.declarations / 4,
         }
@@ -72,7 +75,7 @@ fn table_of(
     alloc: Global,
     methods: &MethodTables,
     listings: &Listings,
-    interface: usize,
+    interface: ClassId,
 ) -> Result<Vec<bool>, NoMemory>
     ensures { IfOk result (λ table. IsTable methods.now.names.now.classes.tree.now interface table.items) }
 {
@@ -92,7 +95,7 @@ fn tables_of(
 {
     let mut tables = Vec::new(alloc);
     for interface in 0..methods.names.bases().len() {
-        tables.push(table_of(alloc, methods, listings, interface)?)?;
+        tables.push(table_of(alloc, methods, listings, ClassId::new(interface))?)?;
     }
     Ok(tables)
 }
@@ -109,20 +112,20 @@ pub(crate) fn lacking_tables(
     tables_of(alloc, methods, &listings)
 }
 
-fn is_false(table: &[bool], class: usize) -> bool
+fn is_false(table: &[bool], class: ClassId) -> bool
     ensures { result ≡ true → slice_get table.now class ≡ Some false }
 {
-    match table.get(class) {
+    match table.get(class.number()) {
         None => false,
         Some(lacks) => !*lacks,
     }
 }
 
 /// Whether the table of an interface says of a class that it lacks none of the methods.
-pub(crate) fn is_reported(tables: &[Vec<bool>], class: usize, interface: usize) -> bool
+pub(crate) fn is_reported(tables: &[Vec<bool>], class: ClassId, interface: ClassId) -> bool
     ensures { result ≡ true → IsReported tables.now class interface }
 {
-    match tables.get(interface) {
+    match tables.get(interface.number()) {
         None => false,
         Some(table) => is_false(table.as_slice(), class),
     }

@@ -23,6 +23,7 @@ use cil_model::memory::NoMemory;
 use cil_model::trees::{Class, Code, Field, Line, Method};
 use name_tables::bodies::{code_of, lines_of};
 use name_tables::classes::method_members;
+use name_tables::ids::ClassId;
 use name_tables::keys::ClassKey;
 use name_tables::kinds::is_static;
 use name_tables::lookups::NameTables;
@@ -142,8 +143,8 @@ fn count_fields(fields: &[&Field], is_static: bool) -> usize
         .count()
 }
 
-/// How many instance fields the class of a number declares.
-fn count_instance_fields(names: &NameTables, class: usize) -> usize
+/// How many instance fields a class declares.
+fn count_instance_fields(names: &NameTables, class: ClassId) -> usize
     ensures { result ≡ instance_count names.now.classes.tree.now class }
 {
     match names.classes.class(class) {
@@ -162,7 +163,7 @@ fn count_static_fields(names: &NameTables, class: &Class) -> usize
     }
 }
 
-fn has_few_instance_fields(names: &NameTables, chain: &[usize]) -> bool
+fn has_few_instance_fields(names: &NameTables, chain: &[ClassId]) -> bool
     ensures { result ≡ nat_le (sum_by (instance_count names.now.classes.tree.now) chain.now) MOST_INSTANCE_FIELDS }
 {
     let mut left = MOST_INSTANCE_FIELDS;

@@ -14,9 +14,10 @@ ghost use Rattle.metadata.specs.Open.{marks_in, hides_one, AreClear, AreDecided}
 use cil_model::memory::NoMemory;
 use cil_model::trees::Method;
 use inheritance::{Cyclic, classes_in_topological_order};
+use name_tables::ids::{ClassId, MethodId};
 use name_tables::keys::MethodKey;
 use name_tables::kinds::{is_abstract_method, is_new_slot_method, is_virtual};
-use name_tables::lookups::{MemberNumber, NameTables};
+use name_tables::lookups::NameTables;
 use name_tables::methods::MethodTables;
 use std::alloc::Global;
 
@@ -57,8 +58,8 @@ fn abstract_marks(alloc: Global, names: &NameTables) -> Result<Vec<Vec<bool>>, N
     Ok(rows)
 }
 
-/// Whether the method of this name and signature of the class of a number is abstract.
-fn is_abstract_at(names: &NameTables, key: MethodKey, class: usize) -> bool
+/// Whether the method of this name and signature of a class is abstract.
+fn is_abstract_at(names: &NameTables, key: MethodKey, class: ClassId) -> bool
     ensures { result ≡ option_map_or (λ m. is_abstract_method m.kind) (method_found names.now.classes.tree.now (method_of_key key.entry) class) false }
 {
     match names.classes.method(class, key) {
@@ -68,7 +69,7 @@ fn is_abstract_at(names: &NameTables, key: MethodKey, class: usize) -> bool
 }
 
 /// Whether the method of this name and signature of the class that a look-up found is abstract.
-fn is_abstract_found(names: &NameTables, key: MethodKey, found: Option<MemberNumber>) -> bool
+fn is_abstract_found(names: &NameTables, key: MethodKey, found: Option<MethodId>) -> bool
     ensures { result ≡ option_map_or (λ f. option_map_or (λ m. is_abstract_method m.kind) (method_found names.now.classes.tree.now (method_of_key key.entry) f.class) false) found false }
 {
     match found {
@@ -78,21 +79,21 @@ fn is_abstract_found(names: &NameTables, key: MethodKey, found: Option<MemberNum
 }
 
 /// Whether the nearest method of this name and signature, from a class on, may be abstract.
-fn may_be_top(methods: &MethodTables, class: Option<usize>, key: MethodKey) -> bool
-    ensures { result ≡ false → top_open methods.now.names.now.classes.tree.now (method_of_key key.entry) (line_of methods.now.names.now.classes.tree.now class) ≡ false }
+fn may_be_top(methods: &MethodTables, class: &Option<ClassId>, key: MethodKey) -> bool
+    ensures { result ≡ false → top_open methods.now.names.now.classes.tree.now (method_of_key key.entry) (line_of methods.now.names.now.classes.tree.now class.now) ≡ false }
 {
     let Some(class) = class else {
         return false;
     };
-    match methods.nearest(class, key) {
+    match methods.nearest(*class, key) {
         Ok(found) => is_abstract_found(methods.names, key, found),
         Err(Cyclic) => true,
     }
 }
 
 /// Whether one of the methods of a class may hide an abstract one, from the class's base on.
-fn may_hide_one(methods: &MethodTables, base: Option<usize>, own: &[&Method]) -> bool
-    ensures { result ≡ false → list_any (hides_one methods.now.names.now.classes.tree.now (line_of methods.now.names.now.classes.tree.now base)) (map (λ m. m.now) own.now) ≡ false }
+fn may_hide_one(methods: &MethodTables, base: &Option<ClassId>, own: &[&Method]) -> bool
+    ensures { result ≡ false → list_any (hides_one methods.now.names.now.classes.tree.now (line_of methods.now.names.now.classes.tree.now base.now)) (map (λ m. m.now) own.now) ≡ false }
 {
     for method in own {
         if !is_override(method) {
@@ -106,27 +107,27 @@ fn may_hide_one(methods: &MethodTables, base: Option<usize>, own: &[&Method]) ->
 }
 
 /// Whether a class is marked false.
-fn is_reported_false(reported: &[bool], class: usize) -> bool
+fn is_reported_false(reported: &[bool], class: ClassId) -> bool
     ensures { result ≡ true → slice_get reported.now class ≡ Some false }
 {
-    match reported.get(class) {
+    match reported.get(class.number()) {
         None => false,
         Some(answer) => !*answer,
     }
 }
 
 /// Whether a class, where there is one, is marked as hiding nothing.
-fn is_clear(may_hide: &[bool], class: Option<usize>) -> bool
-    ensures { result ≡ true → (n : ℕ) → class ≡ Some n → slice_get may_hide.now n ≡ Some false }
+fn is_clear(may_hide: &[bool], class: &Option<ClassId>) -> bool
+    ensures { result ≡ true → (n : ℕ) → class.now ≡ Some n → slice_get may_hide.now n ≡ Some false }
 {
     match class {
         None => true,
-        Some(class) => is_reported_false(may_hide, class),
+        Some(class) => is_reported_false(may_hide, *class),
     }
 }
 
 /// Whether a class hides no abstract method along its bases, where that is known of its base.
-fn stays_clear(methods: &MethodTables, may_hide: &[bool], class: usize) -> bool
+fn stays_clear(methods: &MethodTables, may_hide: &[bool], class: ClassId) -> bool
     requires { AreClear methods.now.names.now.classes.tree.now may_hide.now }
     ensures { result ≡ true → (k : MethodIdentity) → hidden_open methods.now.names.now.classes.tree.now k (line_of methods.now.names.now.classes.tree.now (Some class)) ≡ false }
 {
@@ -135,12 +136,12 @@ fn stays_clear(methods: &MethodTables, may_hide: &[bool], class: usize) -> bool
     if !names.ends(class) {
         return false;
     }
-    if !is_clear(may_hide, base) {
+    if !is_clear(may_hide, &base) {
         return false;
     }
     match names.classes.class(class) {
         None => false,
-        Some(declared) => !may_hide_one(methods, base, declared.methods.as_slice()),
+        Some(declared) => !may_hide_one(methods, &base, declared.methods.as_slice()),
     }
 }
 
@@ -157,7 +158,7 @@ fn hiding_classes(alloc: Global, methods: &MethodTables) -> Result<Vec<bool>, No
         if class >= may_hide.len() {
             continue;
         }
-        if !stays_clear(methods, may_hide.as_slice(), class) {
+        if !stays_clear(methods, may_hide.as_slice(), ClassId::new(class)) {
             continue;
         }
         may_hide[class] = false;
@@ -166,7 +167,7 @@ fn hiding_classes(alloc: Global, methods: &MethodTables) -> Result<Vec<bool>, No
 }
 
 /// Whether a class is marked false in both.
-fn is_neither(first: &[bool], second: &[bool], class: usize) -> bool
+fn is_neither(first: &[bool], second: &[bool], class: ClassId) -> bool
     ensures first { result ≡ true → slice_get first.now class ≡ Some false }
     ensures second { result ≡ true → slice_get second.now class ≡ Some false }
 {
@@ -182,7 +183,11 @@ fn decided_classes(alloc: Global, methods: &MethodTables) -> Result<Vec<bool>, N
     let may_hide = hiding_classes(alloc, methods)?;
     let mut decided = Vec::new(alloc);
     for class in 0..may_stay.len() {
-        decided.push(is_neither(may_stay.as_slice(), may_hide.as_slice(), class))?;
+        decided.push(is_neither(
+            may_stay.as_slice(),
+            may_hide.as_slice(),
+            ClassId::new(class),
+        ))?;
     }
     Ok(decided)
 }
@@ -197,17 +202,17 @@ impl<'a> OpenSlots<'a> {
     }
 
     /// Whether it is known that a class leaves no slot open along its bases.
-    pub fn is_decided(&self, class: usize) -> bool
+    pub fn is_decided(&self, class: ClassId) -> bool
         ensures { result ≡ true → IsDecided self.now.methods.now.names.now.classes.tree.now (line_of self.now.methods.now.names.now.classes.tree.now (Some class)) }
     {
-        match self.decided.get(class) {
+        match self.decided.get(class.number()) {
             None => false,
             Some(decided) => *decided,
         }
     }
 
     /// Whether a method of a class is abstract, and the nearest of its name and signature from the first class on.
-    fn is_top(&self, first: usize, class: usize, method: &Method) -> bool {
+    fn is_top(&self, first: ClassId, class: ClassId, method: &Method) -> bool {
         if !is_abstract_method(&method.kind) {
             return false;
         }
@@ -219,7 +224,7 @@ impl<'a> OpenSlots<'a> {
     }
 
     /// Whether a class has an abstract method that is nearest from the first class on.
-    fn has_top(&self, first: usize, class: usize) -> bool {
+    fn has_top(&self, first: ClassId, class: ClassId) -> bool {
         let Some(declared) = self.methods.names.classes.class(class) else {
             return false;
         };
@@ -232,7 +237,7 @@ impl<'a> OpenSlots<'a> {
     }
 
     /// The class of the abstract method that one hides from its class's base on, where there is one.
-    fn hidden_by(&self, base: usize, method: &Method) -> Option<usize> {
+    fn hidden_by(&self, base: ClassId, method: &Method) -> Option<ClassId> {
         if is_override(method) {
             return None;
         }
@@ -246,7 +251,7 @@ impl<'a> OpenSlots<'a> {
     }
 
     /// The class of an abstract method that a method of a class hides, where there is one.
-    fn hidden_after(&self, class: usize) -> Option<usize> {
+    fn hidden_after(&self, class: ClassId) -> Option<ClassId> {
         let names = self.methods.names;
         let declared = names.classes.class(class)?;
         let base = names.base(class)?;
@@ -259,7 +264,7 @@ impl<'a> OpenSlots<'a> {
     }
 
     /// The first of these classes with an abstract method that is not overridden.
-    fn first_top(&self, chain: &[usize]) -> Option<usize> {
+    fn first_top(&self, chain: &[ClassId]) -> Option<ClassId> {
         let first = *chain.first()?;
         for class in chain {
             if self.has_top(first, *class) {
@@ -270,7 +275,7 @@ impl<'a> OpenSlots<'a> {
     }
 
     /// The class of the nearest abstract method along these classes that is hidden.
-    fn first_hidden(&self, chain: &[usize]) -> Option<usize> {
+    fn first_hidden(&self, chain: &[ClassId]) -> Option<ClassId> {
         for class in chain {
             if let Some(hidden) = self.hidden_after(*class) {
                 return Some(hidden);
@@ -281,7 +286,7 @@ impl<'a> OpenSlots<'a> {
 
     /// The class that seems to leave a slot open along these classes: the nearest with an abstract method that is not overridden, or otherwise
     /// one with an abstract method that is hidden. Its contract says nothing: the caller tests the methods of the class.
-    pub fn suspect(&self, chain: &[usize]) -> Option<usize> {
+    pub fn suspect(&self, chain: &[ClassId]) -> Option<ClassId> {
         match self.first_top(chain) {
             None => self.first_hidden(chain),
             Some(top) => Some(top),

@@ -2,7 +2,7 @@
 //! counted from 0 in source order, fields and methods among those of their class, and lines among the instructions of their method.
 
 use crate::rules::Rule;
-use name_tables::lookups::MemberNumber;
+use name_tables::ids::{ClassId, MethodId};
 use std::fmt;
 
 /// A field or a method of a class of the source.
@@ -143,10 +143,10 @@ pub enum KindFault {
     InInterface { method: usize },
     /// An abstract method of a class that is not abstract.
     Abstract { method: usize },
-    /// A method, by its number among those of all classes, that fills a slot of the class, which is not abstract, with nothing.
-    LeftOpen { open: MemberNumber },
-    /// A virtual method without newslot over one that is not virtual, and the number of that one's class among all classes.
-    OverPlain { method: usize, base: usize },
+    /// A method of any class that fills a slot of the class, which is not abstract, with nothing.
+    LeftOpen { open: MethodId },
+    /// A virtual method without newslot over one that is not virtual, and that one's class.
+    OverPlain { method: usize, base: ClassId },
 }
 
 /// A method whose kind does not fit its class or what that inherits (number 205).

@@ -8,6 +8,7 @@ ghost use Rattle.inheritance.specs.Ledgers.{pair_of, nearest_from};
 ghost use Rattle.inheritance.specs.CutCycles.{IsCut};
 ghost use Rattle.name_tables.specs.Inherited.{number_in, HaveIds};
 
+use crate::ids::ClassId;
 use crate::key_indices::KeyIndices;
 use cil_model::memory::NoMemory;
 use inheritance::{CutCycles, Cyclic, Declared, Forest, Inheritance};
@@ -156,12 +157,13 @@ impl<K: Eq + Hash + Copy + Drop> Inherited<K> {
     }
 
     /// The nearest declaration of a key, from a class on. An error exactly where the class's bases do not end.
-    pub fn nearest(&self, class: usize, key: K) -> Result<Option<Declared>, Cyclic>
+    pub fn nearest(&self, class: ClassId, key: K) -> Result<Option<Declared>, Cyclic>
         ensures found { IfOk result (λ found. option_map (λ d. (d.class, d.index)) found ≡ nearest_from self.now.inheritance.forest (number_in K.eq self.now.keys key) self.now.inheritance.forest.most (Some class)) }
         ensures ended { OnOk result (Ends self.now.inheritance.forest.bases.items self.now.inheritance.forest.most class) }
         ensures cyclic { OnErr result (¬ Ends self.now.inheritance.forest.bases.items self.now.inheritance.forest.most class) }
     {
-        self.inheritance.nearest(class, number_of(&self.keys, key))
+        self.inheritance
+            .nearest(class.number(), number_of(&self.keys, key))
     }
 
     /// What the key of a number finds, from a class on whose bases do not end.
@@ -176,12 +178,12 @@ impl<K: Eq + Hash + Copy + Drop> Inherited<K> {
     }
 
     /// The same for each class.
-    pub fn find(&self, class: usize, key: K) -> Option<Declared>
+    pub fn find(&self, class: ClassId, key: K) -> Option<Declared>
         ensures { option_map (λ d. (d.class, d.index)) result ≡ nearest_from self.now.inheritance.forest (number_in K.eq self.now.keys key) self.now.inheritance.forest.most (Some class) }
     {
         match self.nearest(class, key) {
             Ok(found) => found,
-            Err(Cyclic) => self.nearest_round(class, number_of(&self.keys, key)),
+            Err(Cyclic) => self.nearest_round(class.number(), number_of(&self.keys, key)),
         }
     }
 }

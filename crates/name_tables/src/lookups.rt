@@ -15,6 +15,7 @@ ghost use Rattle.name_tables.specs.Numbers.{chain_numbers, nearest_number, index
 ghost use Rattle.name_tables.specs.Sameness.{same_field, same_called, called_of};
 
 use crate::built_in::BuiltInClass;
+use crate::ids::{ClassId, FieldId, MethodId};
 use crate::inherited::{Inherited, number_of};
 use crate::keys::{CallKey, CallNumber, ClassKey, FieldKey, MethodKey};
 use crate::members::{all_calls, all_fields, all_methods, base_numbers};
@@ -26,13 +27,6 @@ use cil_model::trees::Tree;
 use cil_model::types::{ClassName, DeclaredType, Signature};
 use inheritance::Declared;
 use std::alloc::Global;
-
-/// Where a member is: the number of its class, and its index among the fields or the methods of that class.
-#[derive(Clone, Copy, PartialEq, Eq)]
-pub struct MemberNumber {
-    pub class: usize,
-    pub index: usize,
-}
 
 /// The tables of a tree, with what each class inherits.
 pub struct NameTables<'a> {
@@ -57,14 +51,27 @@ impl Drop for NameTables<'_> {
     }
 }
 
-/// A declaration as a member.
-pub(crate) fn member_number(found: Option<Declared>) -> Option<MemberNumber>
+/// A declaration as a field.
+fn field_id(found: Option<Declared>) -> Option<FieldId>
+    ensures { option_map (λ f. (f.class, f.index)) result ≡ pair_of found }
+{
+    match found {
+        None => None,
+        Some(declared) => Some(FieldId {
+            class: ClassId::new(declared.class),
+            index: declared.index,
+        }),
+    }
+}
+
+/// A declaration as a method.
+pub(crate) fn method_id(found: Option<Declared>) -> Option<MethodId>
     ensures { option_map (λ m. (m.class, m.index)) result ≡ pair_of found }
 {
     match found {
         None => None,
-        Some(declared) => Some(MemberNumber {
-            class: declared.class,
+        Some(declared) => Some(MethodId {
+            class: ClassId::new(declared.class),
             index: declared.index,
         }),
     }
@@ -96,43 +103,43 @@ impl<'a> NameTables<'a> {
         self.fields.inheritance.forest.bases.as_slice()
     }
 
-    /// The number of the base of a class.
-    pub fn base(&self, class: usize) -> Option<usize>
+    /// The base of a class.
+    pub fn base(&self, class: ClassId) -> Option<ClassId>
         ensures { result ≡ base_in (base_numbers self.now.classes.tree.now) class }
     {
-        match self.bases().get(class) {
-            None => None,
-            Some(base) => *base,
+        match self.bases().get(class.number()) {
+            Some(Some(base)) => Some(ClassId::new(*base)),
+            _ => None,
         }
     }
 
     /// Whether the bases of a class end.
-    pub fn ends(&self, class: usize) -> bool
+    pub fn ends(&self, class: ClassId) -> bool
         ensures { IsTrue result ↔ EndsIn self.now.classes.tree.now class }
     {
-        self.fields.inheritance.ends(class)
+        self.fields.inheritance.ends(class.number())
     }
 
-    /// The numbers of a class and those along its bases. The only error is out of memory.
-    pub fn line(&self, alloc: Global, class: usize) -> Result<Vec<usize>, NoMemory>
+    /// A class and those along its bases. The only error is out of memory.
+    pub fn line(&self, alloc: Global, class: ClassId) -> Result<Vec<ClassId>, NoMemory>
         ensures { IfOk result (λ v. v.items ≡ line_within (base_numbers self.now.classes.tree.now) (longest_chain self.now.classes.tree.now) (Some class)) }
     {
-        let mut numbers = Vec::new(alloc);
+        let mut line = Vec::new(alloc);
         let mut next = Some(class);
         let mut left = self.classes.longest_chain();
         while left > 0 {
             let Some(class) = next else {
-                return Ok(numbers);
+                return Ok(line);
             };
-            numbers.push(class)?;
+            line.push(class)?;
             next = self.base(class);
             left -= 1;
         }
-        Ok(numbers)
+        Ok(line)
     }
 
-    /// The numbers of a declared class's chain; none where the name refers to nothing. The only error is out of memory.
-    pub fn chain(&self, alloc: Global, name: ClassKey) -> Result<Vec<usize>, NoMemory>
+    /// The classes of a declared class's chain; none where the name refers to nothing. The only error is out of memory.
+    pub fn chain(&self, alloc: Global, name: ClassKey) -> Result<Vec<ClassId>, NoMemory>
         ensures { IfOk result (λ v. v.items ≡ chain_numbers self.now.classes.tree.now (class_of_key name.entry)) }
     {
         match self.classes.number(name) {
@@ -142,13 +149,13 @@ impl<'a> NameTables<'a> {
     }
 
     /// The nearest field of a class's chain.
-    fn nearest_field(&self, owner: ClassKey, key: FieldKey) -> Option<MemberNumber>
+    fn nearest_field(&self, owner: ClassKey, key: FieldKey) -> Option<FieldId>
         ensures { option_map (λ m. (m.class, m.index)) result ≡ nearest_number (field_index self.now.classes.tree.now key.entry) (chain_numbers self.now.classes.tree.now (class_of_key owner.entry)) }
     {
         let Some(class) = self.classes.number(owner) else {
             return None;
         };
-        member_number(self.fields.find(class, key))
+        field_id(self.fields.find(class, key))
     }
 
     /// The number of a method's name and signature, with its staticness.
@@ -161,15 +168,15 @@ impl<'a> NameTables<'a> {
         }
     }
 
-    /// The nearest method from the class of a number on.
-    fn call_from(&self, class: usize, key: CallKey) -> Option<MemberNumber>
+    /// The nearest method from a class on.
+    fn call_from(&self, class: ClassId, key: CallKey) -> Option<MethodId>
         ensures { option_map (λ m. (m.class, m.index)) result ≡ nearest_number (call_index self.now.classes.tree.now (called_of_key key.entry)) (line_of self.now.classes.tree.now (Some class)) }
     {
-        member_number(self.calls.find(class, self.call_number(key)))
+        method_id(self.calls.find(class, self.call_number(key)))
     }
 
     /// The nearest method of a class's chain.
-    fn nearest_call(&self, owner: ClassKey, key: CallKey) -> Option<MemberNumber>
+    fn nearest_call(&self, owner: ClassKey, key: CallKey) -> Option<MethodId>
         ensures { option_map (λ m. (m.class, m.index)) result ≡ nearest_number (call_index self.now.classes.tree.now (called_of_key key.entry)) (chain_numbers self.now.classes.tree.now (class_of_key owner.entry)) }
     {
         let Some(class) = self.classes.number(owner) else {
@@ -178,8 +185,8 @@ impl<'a> NameTables<'a> {
         self.call_from(class, key)
     }
 
-    /// The method that the class of a number itself declares.
-    fn own_call_of(&self, class: usize, key: CallKey) -> Option<MemberNumber>
+    /// The method that a class itself declares, by its id.
+    fn own_call_of(&self, class: ClassId, key: CallKey) -> Option<MethodId>
         ensures { option_map (λ m. (m.class, m.index)) result ≡ nearest_number (call_index self.now.classes.tree.now (called_of_key key.entry)) (class ∷ []) }
     {
         match self.call_from(class, key) {
@@ -195,7 +202,7 @@ impl<'a> NameTables<'a> {
     }
 
     /// The method that a class itself declares.
-    fn own_call(&self, owner: ClassKey, key: CallKey) -> Option<MemberNumber>
+    fn own_call(&self, owner: ClassKey, key: CallKey) -> Option<MethodId>
         ensures { option_map (λ m. (m.class, m.index)) result ≡ nearest_number (index_in (λ d. d.methods) (λ m. same_called (called_of_key key.entry) (called_of m)) self.now.classes.tree.now) (cons_option (class_number self.now.classes.tree.now (class_of_key owner.entry)) []) }
     {
         match self.classes.number(owner) {
@@ -205,7 +212,7 @@ impl<'a> NameTables<'a> {
     }
 
     /// The field of this name, type and staticness in the nearest class of the owner's chain (ECMA-335 II.16, this profile).
-    pub fn find_field(&self, is_static: bool, reference: &FieldReference) -> Option<MemberNumber>
+    pub fn find_field(&self, is_static: bool, reference: &FieldReference) -> Option<FieldId>
         ensures number { option_map (λ m. (m.class, m.index)) result ≡ field_number self.now.classes.tree.now is_static reference.now }
         ensures member { option_map (λ m. field_at self.now.classes.tree.now (m.class, m.index)) result ≡ option_map Some (find_field self.now.classes.tree.now is_static reference.now) }
     {
@@ -219,12 +226,7 @@ impl<'a> NameTables<'a> {
 
     /// The method of this name, signature and staticness in the nearest class of the owner's chain, a constructor in the owner
     /// alone (ECMA-335 II.15.1.3, II.10.5.1).
-    fn find_call(
-        &self,
-        owner: ClassKey,
-        method: MethodKey,
-        is_instance: bool,
-    ) -> Option<MemberNumber>
+    fn find_call(&self, owner: ClassKey, method: MethodKey, is_instance: bool) -> Option<MethodId>
         ensures number { option_map (λ m. (m.class, m.index)) result ≡ method_number self.now.classes.tree.now is_instance (reference_of_keys owner.entry method.entry) }
         ensures member { option_map (λ m. method_at self.now.classes.tree.now (m.class, m.index)) result ≡ option_map Some (find_method self.now.classes.tree.now is_instance (reference_of_keys owner.entry method.entry)) }
     {
@@ -240,11 +242,7 @@ impl<'a> NameTables<'a> {
 
     /// The method that a reference finds: of its name, signature and staticness in the nearest class of the owner's chain, a
     /// constructor in the owner alone (ECMA-335 II.15.1.3, II.10.5.1).
-    pub fn find_method(
-        &self,
-        is_instance: bool,
-        reference: &MethodReference,
-    ) -> Option<MemberNumber>
+    pub fn find_method(&self, is_instance: bool, reference: &MethodReference) -> Option<MethodId>
         ensures number { option_map (λ m. (m.class, m.index)) result ≡ method_number self.now.classes.tree.now is_instance reference.now }
         ensures member { option_map (λ m. method_at self.now.classes.tree.now (m.class, m.index)) result ≡ option_map Some (find_method self.now.classes.tree.now is_instance reference.now) }
     {
@@ -259,7 +257,7 @@ impl<'a> NameTables<'a> {
         owner: &ClassName,
         name: &Text,
         signature: &Signature,
-    ) -> Option<MemberNumber>
+    ) -> Option<MethodId>
         ensures number { option_map (λ m. (m.class, m.index)) result ≡ method_number self.now.classes.tree.now true (virtual_reference owner.now name.now signature.now) }
         ensures member { option_map (λ m. method_at self.now.classes.tree.now (m.class, m.index)) result ≡ option_map Some (find_method self.now.classes.tree.now true (virtual_reference owner.now name.now signature.now)) }
     {
@@ -275,7 +273,7 @@ impl<'a> NameTables<'a> {
         &self,
         class: &ClassName,
         parameters: &[DeclaredType],
-    ) -> Option<MemberNumber>
+    ) -> Option<MethodId>
         ensures number { option_map (λ m. (m.class, m.index)) result ≡ method_number self.now.classes.tree.now true (constructor_reference class.now parameters.now) }
         ensures member { option_map (λ m. method_at self.now.classes.tree.now (m.class, m.index)) result ≡ option_map Some (find_method self.now.classes.tree.now true (constructor_reference class.now parameters.now)) }
     {

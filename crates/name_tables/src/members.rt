@@ -1,13 +1,15 @@
 //! The fields and methods that the classes of a tree have and inherit.
 
-ghost use Rattle.std.specs.Prelude.{◌≡◌, ℕ, IfOk, length, map, option_map};
+ghost use Rattle.std.specs.Prelude.{◌≡◌, ℕ, IfOk, length, map, option_and_then, option_map, slice_get};
 ghost use Rattle.name_tables.specs.Entries.{declaration_in};
 ghost use Rattle.name_tables.specs.Keys.{field_of_key, method_of_key};
 ghost use Rattle.name_tables.specs.Members.{base_numbers, field_key_number, field_index, IsMemberTable};
 ghost use Rattle.name_tables.specs.Methods.{call_number, call_of, call_index, IsMethodTable};
+ghost use Rattle.name_tables.specs.Numbers.{declarations, class_number};
 ghost use Rattle.name_tables.specs.Sameness.{MethodIdentity, identity_of, called_of};
 
 use crate::class_tables::{ClassTable, method_keys};
+use crate::ids::ClassId;
 use crate::inherited::Inherited;
 use crate::keys::{CallNumber, ClassKey, FieldKey, MethodKey};
 use crate::kinds::is_static;
@@ -15,6 +17,16 @@ use crate::tables::ClassTables;
 use cil_model::memory::NoMemory;
 use cil_model::trees::{Field, Method};
 use std::alloc::Global;
+
+/// The number of the base of the class of a number.
+fn base_number(classes: &ClassTables, class: usize) -> Option<usize>
+    ensures { result ≡ option_and_then (class_number classes.now.tree.now) (option_and_then (λ e. e.1.base) (slice_get (declarations classes.now.tree.now) class)) }
+{
+    match classes.base_id(ClassId::new(class)) {
+        None => None,
+        Some(base) => Some(base.number()),
+    }
+}
 
 /// The number of the base of each class.
 pub(crate) fn base_numbers(
@@ -25,7 +37,7 @@ pub(crate) fn base_numbers(
 {
     let mut bases = Vec::new(alloc);
     for class in 0..classes.all().len() {
-        bases.push(classes.base_number(class))?;
+        bases.push(base_number(classes, class))?;
     }
     Ok(bases)
 }

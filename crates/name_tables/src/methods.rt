@@ -14,9 +14,10 @@ ghost use Rattle.name_tables.specs.Numbers.{nearest_number};
 ghost use Rattle.name_tables.specs.Sameness.{MethodIdentity, identity_of};
 
 use crate::class_tables::ClassTable;
+use crate::ids::{ClassId, MethodId};
 use crate::inherited::{Inherited, number_of, row_numbers};
 use crate::keys::MethodKey;
-use crate::lookups::{MemberNumber, NameTables, member_number};
+use crate::lookups::{NameTables, method_id};
 use cil_model::memory::NoMemory;
 use inheritance::Cyclic;
 use std::alloc::Global;
@@ -74,7 +75,7 @@ fn all_virtual(alloc: Global, names: &NameTables) -> Result<Inherited<usize>, No
 }
 
 /// Whether a class from one on declares a virtual method of this number. An error exactly where its bases do not end.
-fn finds(overridable: &Inherited<usize>, class: usize, number: usize) -> Result<bool, Cyclic>
+fn finds(overridable: &Inherited<usize>, class: ClassId, number: usize) -> Result<bool, Cyclic>
     ensures found { IfOk result (λ found. found ≡ is_some (nearest_from overridable.now.inheritance.forest (number_in (λ a b. a == b) overridable.now.keys number) overridable.now.inheritance.forest.most (Some class))) }
     ensures ended { OnOk result (Ends overridable.now.inheritance.forest.bases.items overridable.now.inheritance.forest.most class) }
     ensures cyclic { OnErr result (¬ Ends overridable.now.inheritance.forest.bases.items overridable.now.inheritance.forest.most class) }
@@ -89,7 +90,7 @@ fn finds(overridable: &Inherited<usize>, class: usize, number: usize) -> Result<
 /// there is such a number.
 fn first_missing(
     overridable: &Inherited<usize>,
-    class: usize,
+    class: ClassId,
     numbers: &[usize],
 ) -> Result<Option<usize>, Cyclic>
     ensures found { IfOk result (λ index. is_none index ≡ list_all (λ n. is_some (nearest_from overridable.now.inheritance.forest (number_in (λ a b. a == b) overridable.now.keys n) overridable.now.inheritance.forest.most (Some class))) numbers.now) }
@@ -114,20 +115,20 @@ impl<'a> MethodTables<'a> {
     }
 
     /// The nearest method of this name and signature, from a class on through its bases. An error exactly where they do not end.
-    pub fn nearest(&self, class: usize, key: MethodKey) -> Result<Option<MemberNumber>, Cyclic>
+    pub fn nearest(&self, class: ClassId, key: MethodKey) -> Result<Option<MethodId>, Cyclic>
         ensures found { IfOk result (λ found. option_map (λ m. (m.class, m.index)) found ≡ nearest_number (method_index self.now.names.now.classes.tree.now (method_of_key key.entry)) (line_of self.now.names.now.classes.tree.now (Some class))) }
         ensures ended { OnOk result (EndsIn self.now.names.now.classes.tree.now class) }
         ensures cyclic { OnErr result (¬ EndsIn self.now.names.now.classes.tree.now class) }
     {
         match self.names.methods.nearest(class, key) {
-            Ok(found) => Ok(member_number(found)),
+            Ok(found) => Ok(method_id(found)),
             Err(Cyclic) => Err(Cyclic),
         }
     }
 
     /// Whether a class, or one of its bases, declares a virtual method of this name and signature. An error exactly where its bases
     /// do not end.
-    pub fn has_virtual(&self, class: usize, key: MethodKey) -> Result<bool, Cyclic>
+    pub fn has_virtual(&self, class: ClassId, key: MethodKey) -> Result<bool, Cyclic>
         ensures found { IfOk result (λ found. found ≡ is_some (nearest_number (virtual_index self.now.names.now.classes.tree.now (method_of_key key.entry)) (line_of self.now.names.now.classes.tree.now (Some class)))) }
         ensures ended { OnOk result (EndsIn self.now.names.now.classes.tree.now class) }
         ensures cyclic { OnErr result (¬ EndsIn self.now.names.now.classes.tree.now class) }
@@ -136,16 +137,23 @@ impl<'a> MethodTables<'a> {
             .overridable
             .nearest(class, number_of(&self.names.methods.keys, key))
         {
-            Ok(found) => Ok(member_number(found).is_some()),
+            Ok(found) => Ok(method_id(found).is_some()),
             Err(Cyclic) => Err(Cyclic),
         }
     }
 
     /// The numbers of the methods that a class declares.
-    fn numbers_at(&self, class: usize) -> &[usize]
+    fn numbers_at(&self, class: ClassId) -> &[usize]
         ensures { result.now ≡ slice_index_or (map (λ r. r.items) self.now.names.now.methods.inheritance.forest.declared.items) class [] }
     {
-        match self.names.methods.inheritance.forest.declared.get(class) {
+        match self
+            .names
+            .methods
+            .inheritance
+            .forest
+            .declared
+            .get(class.number())
+        {
             None => &[],
             Some(numbers) => numbers.as_slice(),
         }
@@ -153,7 +161,7 @@ impl<'a> MethodTables<'a> {
 
     /// The index of the first method of an interface of whose name and signature no class from one on declares a virtual method. An
     /// error exactly where the class's bases do not end and the interface declares a method.
-    pub fn first_absent(&self, interface: usize, class: usize) -> Result<Option<usize>, Cyclic>
+    pub fn first_absent(&self, interface: ClassId, class: ClassId) -> Result<Option<usize>, Cyclic>
         ensures found { IfOk result (λ index. is_none index ≡ list_all (λ m. is_some (nearest_number (virtual_index self.now.names.now.classes.tree.now (identity_of m)) (line_of self.now.names.now.classes.tree.now (Some class)))) (methods_at self.now.names.now.classes.tree.now interface)) }
         ensures ended { OnOk result (methods_at self.now.names.now.classes.tree.now interface ≢ [] → EndsIn self.now.names.now.classes.tree.now class) }
         ensures cyclic { OnErr result (¬ EndsIn self.now.names.now.classes.tree.now class) }
@@ -168,7 +176,7 @@ impl<'a> MethodTables<'a> {
     /// Of each class, whether for some method of an interface no class from it on declares a virtual one of that name and signature; so
     /// the result is also true where the class's bases do not end. Takes time with the number of classes, of the interface's methods, and of the
     /// declarations of these, where all bases end. The only error is out of memory.
-    pub fn lacks_some(&self, alloc: Global, interface: usize) -> Result<Vec<bool>, NoMemory>
+    pub fn lacks_some(&self, alloc: Global, interface: ClassId) -> Result<Vec<bool>, NoMemory>
         ensures width { IfOk result (λ lacking. length lacking.items ≡ length (base_numbers self.now.names.now.classes.tree.now)) }
         ensures reported { IfOk result (λ lacking. (class : ℕ) (b : Bool) → slice_get lacking.items class ≡ Some b → EndsIn self.now.names.now.classes.tree.now class → b ≡ not (list_all (λ m. is_some (nearest_number (virtual_index self.now.names.now.classes.tree.now (identity_of m)) (line_of self.now.names.now.classes.tree.now (Some class)))) (methods_at self.now.names.now.classes.tree.now interface))) }
         ensures ended { IfOk result (λ lacking. (class : ℕ) → slice_get lacking.items class ≡ Some false → EndsIn self.now.names.now.classes.tree.now class) }

@@ -11,6 +11,7 @@ ghost use Rattle.name_tables.specs.Numbers.{source_entry, declarations, class_nu
 use crate::built_in::BuiltInClass;
 use crate::class_tables::ClassTable;
 use crate::classes::DeclaredClass;
+use crate::ids::ClassId;
 use crate::key_indices::KeyIndices;
 use crate::keys::{ClassKey, MethodKey};
 use cil_model::memory::NoMemory;
@@ -112,35 +113,36 @@ impl<'a> ClassTables<'a> {
     }
 
     /// The number of the class that a name refers to.
-    pub fn number(&self, name: ClassKey) -> Option<usize>
+    pub fn number(&self, name: ClassKey) -> Option<ClassId>
         ensures { result ≡ class_number self.now.tree.now (class_of_key name.entry) }
     {
-        self.names.first(name)
+        let number = self.names.first(name)?;
+        Some(ClassId::new(number))
     }
 
-    /// What the class of a number declares.
-    pub fn class(&self, number: usize) -> Option<&DeclaredClass<'a>>
-        ensures { option_map (λ d. entry_of d.now) result ≡ slice_get (declarations self.now.tree.now) number }
+    /// What a class declares.
+    pub fn class(&self, class: ClassId) -> Option<&DeclaredClass<'a>>
+        ensures { option_map (λ d. entry_of d.now) result ≡ slice_get (declarations self.now.tree.now) class }
     {
-        match self.classes.get(number) {
+        match self.classes.get(class.number()) {
             None => None,
             Some(table) => Some(&table.class),
         }
     }
 
-    /// The base that the class of a number names.
-    pub fn base(&self, number: usize) -> Option<ClassKey<'a>>
-        ensures { option_map class_of_key result ≡ option_and_then (λ e. e.1.base) (slice_get (declarations self.now.tree.now) number) }
+    /// The base that a class names.
+    pub fn base(&self, class: ClassId) -> Option<ClassKey<'a>>
+        ensures { option_map class_of_key result ≡ option_and_then (λ e. e.1.base) (slice_get (declarations self.now.tree.now) class) }
     {
-        let base = self.class(number)?.base?;
+        let base = self.class(class)?.base?;
         Some(ClassKey::of(base))
     }
 
-    /// The number of the base of the class of a number.
-    pub(crate) fn base_number(&self, number: usize) -> Option<usize>
-        ensures { result ≡ option_and_then (class_number self.now.tree.now) (option_and_then (λ e. e.1.base) (slice_get (declarations self.now.tree.now) number)) }
+    /// The base of a class.
+    pub(crate) fn base_id(&self, class: ClassId) -> Option<ClassId>
+        ensures { result ≡ option_and_then (class_number self.now.tree.now) (option_and_then (λ e. e.1.base) (slice_get (declarations self.now.tree.now) class)) }
     {
-        match self.base(number) {
+        match self.base(class) {
             None => None,
             Some(base) => self.number(base),
         }
@@ -152,15 +154,15 @@ impl<'a> ClassTables<'a> {
     {
         match self.number(name) {
             None => None,
-            Some(number) => self.class(number),
+            Some(class) => self.class(class),
         }
     }
 
     /// The first method of a class with this name and signature.
-    pub fn method(&self, number: usize, key: MethodKey) -> Option<&'a Method>
-        ensures { option_map (λ m. m.now) result ≡ method_found self.now.tree.now (method_of_key key.entry) number }
+    pub fn method(&self, class: ClassId, key: MethodKey) -> Option<&'a Method>
+        ensures { option_map (λ m. m.now) result ≡ method_found self.now.tree.now (method_of_key key.entry) class }
     {
-        match self.classes.get(number) {
+        match self.classes.get(class.number()) {
             None => None,
             Some(table) => table.method(key),
         }

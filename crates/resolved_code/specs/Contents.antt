@@ -9,7 +9,8 @@ use Rattle.cil_model.specs.declared.trees.Method.{Method}
 use Rattle.cil_model.specs.Bodies.{is_entry_point, entry_points}
 use Rattle.cil_model.specs.Declarations.{Declaration}
 use Rattle.cil_model.specs.Mentions.{literals_of}
-use Rattle.name_tables.specs.declared.lookups.MemberNumber.{MemberNumber}
+use Rattle.name_tables.specs.declared.ids.FieldId.{FieldId}
+use Rattle.name_tables.specs.declared.ids.MethodId.{MethodId}
 use Rattle.name_tables.specs.Numbers.{field_at, method_at}
 use Rattle.resolved_code.specs.declared.classes.ResolvedField.{ResolvedField}
 use Rattle.resolved_code.specs.declared.classes.ResolvedMethod.{ResolvedMethod}
@@ -17,15 +18,15 @@ use Rattle.resolved_code.specs.Resolved.{AreResolved, BothAlike, IsResolvedField
 use Rattle.resolved_code.specs.declared.contents.Contents.{Contents}
 
 -- the field that a number refers to, its type by number; none where the number refers to none (II.16)
-abbrev pub IsFieldOf : Tree → MemberNumber → Option ResolvedField → Type 0
+abbrev pub IsFieldOf : Tree → FieldId → Option ResolvedField → Type 0
 IsFieldOf tree number field = BothAlike (λ (named : ClassName × Field) resolved. IsResolvedField tree named.1 resolved) (field_at tree (number.class, number.index)) field
 
 -- the method that a number refers to, by numbers; none where the number refers to none (II.15)
-abbrev pub IsMethodOf : Tree → MemberNumber → Option ResolvedMethod → Type 0
+abbrev pub IsMethodOf : Tree → MethodId → Option ResolvedMethod → Type 0
 IsMethodOf tree number method = BothAlike (λ (named : ClassName × Method) resolved. IsResolvedMethod tree named.1 resolved) (method_at tree (number.class, number.index)) method
 
 -- the number of the one method with an entry point (II.15.4.1.2)
-abbrev pub IsEntryPoint : Tree → MemberNumber → Type 0
+abbrev pub IsEntryPoint : Tree → MethodId → Type 0
 IsEntryPoint tree number = entry_points tree ≡ option_to_list (method_at tree (number.class, number.index))
 
 -- the class and the index of the first method with an entry point, where the first class has a number (II.15.4.1.2)

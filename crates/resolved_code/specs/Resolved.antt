@@ -24,7 +24,8 @@ use Rattle.cil_model.specs.Declarations.{Declaration}
 use Rattle.cil_model.specs.Bodies.{pc_of, virtual_reference, constructor_reference}
 use Rattle.cil_model.specs.Chains.{find_field, find_method}
 use Rattle.cil_model.specs.Mentions.{literals_of}
-use Rattle.name_tables.specs.declared.lookups.MemberNumber.{MemberNumber}
+use Rattle.name_tables.specs.declared.ids.FieldId.{FieldId}
+use Rattle.name_tables.specs.declared.ids.MethodId.{MethodId}
 use Rattle.name_tables.specs.Numbers.{declarations, field_at, method_at}
 use Rattle.name_tables.specs.Sameness.{identity_of}
 use Rattle.resolved_code.specs.Identities.{identity_number}
@@ -56,14 +57,14 @@ BothAlike R (Some x) None = ⊥
 -- ---- operands
 
 -- the owner that a text names, and the field that its reference finds (II.16)
-pub record IsField (tree : Tree) (is_static : Bool) (r : FieldReference) (field : MemberNumber) : Type 0 where
+pub record IsField (tree : Tree) (is_static : Bool) (r : FieldReference) (field : FieldId) : Type 0 where
   pub declared_in : ClassName
   pub found : Field
   pub finds : find_field tree is_static r ≡ Some (declared_in, found)
   pub has_id : field_at tree (field.class, field.index) ≡ Some (declared_in, found)
 
 -- the method that a reference finds (II.15.1.3)
-pub record IsMethod (tree : Tree) (is_instance : Bool) (r : MethodReference) (method : MemberNumber) : Type 0 where
+pub record IsMethod (tree : Tree) (is_instance : Bool) (r : MethodReference) (method : MethodId) : Type 0 where
   pub declared_in : ClassName
   pub found : Method
   pub finds : find_method tree is_instance r ≡ Some (declared_in, found)
@@ -95,13 +96,13 @@ pub data IsOperation (tree : Tree) (lines : List Line) : Instruction → Operati
       IsOperation tree lines (Named.Branch condition label) (Resolved.Branch condition index)
   switch : (labels : List (List ℕ)) (indices : List ℕ) → map (λ label. pc_of label lines) labels ≡ map Some indices →
       IsOperation tree lines (Named.Switch labels) (Resolved.Switch indices)
-  load_field : (r : FieldReference) (owner : ℕ) (field : MemberNumber) → class_name tree owner ≡ Some r.owner → IsField tree false r field →
+  load_field : (r : FieldReference) (owner : ℕ) (field : FieldId) → class_name tree owner ≡ Some r.owner → IsField tree false r field →
       IsOperation tree lines (Named.LoadField r) (Resolved.LoadField owner field)
-  store_field : (r : FieldReference) (owner : ℕ) (field : MemberNumber) → class_name tree owner ≡ Some r.owner → IsField tree false r field →
+  store_field : (r : FieldReference) (owner : ℕ) (field : FieldId) → class_name tree owner ≡ Some r.owner → IsField tree false r field →
       IsOperation tree lines (Named.StoreField r) (Resolved.StoreField owner field)
-  load_static_field : (r : FieldReference) (field : MemberNumber) → IsField tree true r field →
+  load_static_field : (r : FieldReference) (field : FieldId) → IsField tree true r field →
       IsOperation tree lines (Named.LoadStaticField r) (Resolved.LoadStaticField field)
-  store_static_field : (r : FieldReference) (field : MemberNumber) → IsField tree true r field →
+  store_static_field : (r : FieldReference) (field : FieldId) → IsField tree true r field →
       IsOperation tree lines (Named.StoreStaticField r) (Resolved.StoreStaticField field)
   new_array : (t : DeclaredType) (n : ResolvedType) → type_at tree n ≡ Some t → IsOperation tree lines (Named.NewArray t) (Resolved.NewArray n)
   load_length : IsOperation tree lines Named.LoadLength Resolved.LoadLength
@@ -109,12 +110,12 @@ pub data IsOperation (tree : Tree) (lines : List Line) : Instruction → Operati
   store_element : (kind : ElementKind) → IsOperation tree lines (Named.StoreElement kind) (Resolved.StoreElement kind)
   cast_class : (t : DeclaredType) (n : ResolvedType) → type_at tree n ≡ Some t → IsOperation tree lines (Named.CastClass t) (Resolved.CastClass n)
   is_instance : (t : DeclaredType) (n : ResolvedType) → type_at tree n ≡ Some t → IsOperation tree lines (Named.IsInstance t) (Resolved.IsInstance n)
-  call : (is_instance : Bool) (r : MethodReference) (owner : ℕ) (method : MemberNumber) → class_name tree owner ≡ Some r.owner → IsMethod tree is_instance r method →
+  call : (is_instance : Bool) (r : MethodReference) (owner : ℕ) (method : MethodId) → class_name tree owner ≡ Some r.owner → IsMethod tree is_instance r method →
       IsOperation tree lines (Named.Call is_instance r) (Resolved.Call is_instance owner method)
-  call_virtual : (c : ClassName) (name : List ℕ) (signature : Signature) (owner : ℕ) (method : MemberNumber) →
+  call_virtual : (c : ClassName) (name : List ℕ) (signature : Signature) (owner : ℕ) (method : MethodId) →
       class_name tree owner ≡ Some c → IsMethod tree true (virtual_reference c name signature) method →
       IsOperation tree lines (Named.CallVirtual c name signature) (Resolved.CallVirtual owner method)
-  new_object : (c : ClassName) (parameters : List DeclaredType) (constructor_number : MemberNumber) → IsMethod tree true (constructor_reference c parameters) constructor_number →
+  new_object : (c : ClassName) (parameters : List DeclaredType) (constructor_number : MethodId) → IsMethod tree true (constructor_reference c parameters) constructor_number →
       IsOperation tree lines (Named.NewObject c parameters) (Resolved.NewObject constructor_number)
   return : IsOperation tree lines Named.Return Resolved.Return
 

@@ -21,7 +21,8 @@ use Rattle.cil_model.specs.Same.{same_text}
 use Rattle.cil_model.specs.Declarations.{Declaration}
 use Rattle.cil_model.specs.Bodies.{pc_of, virtual_reference, constructor_reference}
 use Rattle.cil_model.specs.Mentions.{literals_of}
-use Rattle.name_tables.specs.declared.lookups.MemberNumber.{MemberNumber}
+use Rattle.name_tables.specs.declared.ids.FieldId.{FieldId}
+use Rattle.name_tables.specs.declared.ids.MethodId.{MethodId}
 use Rattle.name_tables.specs.Numbers.{class_number, field_number, method_number, declarations}
 use Rattle.name_tables.specs.Sameness.{identity_of}
 use Rattle.resolved_code.specs.Identities.{identity_number}
@@ -67,20 +68,24 @@ types_rule tree types = all_some (map (type_rule tree) types)
 
 -- ---- operands
 
--- a class and an index as one number
-abbrev pub member_of : ℕ × ℕ → MemberNumber
-member_of n = record { class = n.0; index = n.1 }
+-- a class and an index as the id of a field
+abbrev pub field_id : ℕ × ℕ → FieldId
+field_id n = record { class = n.0; index = n.1 }
+
+-- a class and an index as the id of a method
+abbrev pub method_id : ℕ × ℕ → MethodId
+method_id n = record { class = n.0; index = n.1 }
 
 -- a field that a reference finds (II.16)
-abbrev pub field_rule : Tree → Bool → FieldReference → Option MemberNumber
-field_rule tree is_static r = option_map member_of (field_number tree is_static r)
+abbrev pub field_rule : Tree → Bool → FieldReference → Option FieldId
+field_rule tree is_static r = option_map field_id (field_number tree is_static r)
 
 -- a method that a reference finds (II.15.1.3)
-abbrev pub method_rule : Tree → Bool → MethodReference → Option MemberNumber
-method_rule tree is_instance r = option_map member_of (method_number tree is_instance r)
+abbrev pub method_rule : Tree → Bool → MethodReference → Option MethodId
+method_rule tree is_instance r = option_map method_id (method_number tree is_instance r)
 
 -- what is made of a member and the class that the text names
-abbrev pub with_owner : {A : Type 0} → Tree → ClassName → (ℕ → MemberNumber → A) → Option MemberNumber → Option A
+abbrev pub with_owner : {A M : Type 0} → Tree → ClassName → (ℕ → M → A) → Option M → Option A
 with_owner tree c make member = option_and_then (λ owner. option_map (make owner) member) (class_number tree c)
 
 -- ---- instructions

@@ -9,6 +9,7 @@ ghost use Rattle.resolved_code.specs.Resolved.{BothAlike, IsBody, IsResolvedKind
 use crate::operations::Operation;
 use crate::types::ResolvedType;
 use cil_model::sequences::Sequence;
+use name_tables::ids::ClassId;
 
 /// A field (ECMA-335 II.16).
 #[derive(Clone, Copy)]
@@ -44,13 +45,13 @@ pub struct ResolvedMethod {
     pub kind: ResolvedKind,
 }
 
-/// A class or an interface (ECMA-335 II.10): its base and interfaces by their numbers, its fields and methods in source order.
+/// A class or an interface (ECMA-335 II.10): its base and interfaces by their ids, its fields and methods in source order.
 #[derive(Drop)]
 pub struct ResolvedClass {
     pub is_interface: bool,
     pub is_abstract: bool,
-    pub base: Option<usize>,
-    pub interfaces: Sequence<usize>,
+    pub base: Option<ClassId>,
+    pub interfaces: Sequence<ClassId>,
     pub fields: Sequence<ResolvedField>,
     pub methods: Sequence<ResolvedMethod>,
 }

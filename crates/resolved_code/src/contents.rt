@@ -13,19 +13,20 @@ use crate::resolved::resolve_classes;
 use cil_model::memory::NoMemory;
 use cil_model::sequences::Sequence;
 use cil_model::texts::Text;
-use name_tables::lookups::{MemberNumber, NameTables};
+use name_tables::ids::{ClassId, FieldId, MethodId};
+use name_tables::lookups::NameTables;
 use std::alloc::Global;
 
-/// The classes of a legal tree by their numbers, its literals by theirs, and the number of its entry point.
+/// The classes of a legal tree by their numbers, its literals by theirs, and its entry point.
 #[derive(Drop)]
 pub struct Contents {
     pub classes: Sequence<ResolvedClass>,
     pub literals: Sequence<Text>,
-    pub entry_point: MemberNumber,
+    pub entry_point: MethodId,
 }
 
 /// The entry point of a legal tree.
-fn entry_of_legal(names: &NameTables) -> MemberNumber
+fn entry_of_legal(names: &NameTables) -> MethodId
     requires { IsLegal names.now.classes.tree.now }
     ensures { IsEntryPoint names.now.classes.tree.now result }
 {
@@ -89,22 +90,28 @@ fn at<T>(items: &[T], index: usize) -> Option<&T>
     items.get(index)
 }
 
-/// The field of a number.
-pub(crate) fn field_at(classes: &[ResolvedClass], number: MemberNumber) -> Option<&ResolvedField>
-    ensures { option_map (λ f. f.now) result ≡ option_and_then (λ r. slice_get r.fields number.index) (slice_get classes.now number.class) }
+fn class_at(classes: &[ResolvedClass], class: ClassId) -> Option<&ResolvedClass>
+    ensures { option_map (λ x. x.now) result ≡ slice_get classes.now class }
 {
-    match at(classes, number.class) {
+    at(classes, class.number())
+}
+
+/// The field of an id.
+pub(crate) fn field_at(classes: &[ResolvedClass], field: FieldId) -> Option<&ResolvedField>
+    ensures { option_map (λ f. f.now) result ≡ option_and_then (λ r. slice_get r.fields field.index) (slice_get classes.now field.class) }
+{
+    match class_at(classes, field.class) {
         None => None,
-        Some(class) => at(class.fields.as_slice(), number.index),
+        Some(class) => at(class.fields.as_slice(), field.index),
     }
 }
 
-/// The method of a number.
-pub(crate) fn method_at(classes: &[ResolvedClass], number: MemberNumber) -> Option<&ResolvedMethod>
-    ensures { option_map (λ m. m.now) result ≡ option_and_then (λ r. slice_get r.methods number.index) (slice_get classes.now number.class) }
+/// The method of an id.
+pub(crate) fn method_at(classes: &[ResolvedClass], method: MethodId) -> Option<&ResolvedMethod>
+    ensures { option_map (λ m. m.now) result ≡ option_and_then (λ r. slice_get r.methods method.index) (slice_get classes.now method.class) }
 {
-    match at(classes, number.class) {
+    match class_at(classes, method.class) {
         None => None,
-        Some(class) => at(class.methods.as_slice(), number.index),
+        Some(class) => at(class.methods.as_slice(), method.index),
     }
 }

@@ -9,7 +9,7 @@ ghost use Rattle.resolved_code.specs.Contents.{entry_from};
 use cil_model::trees::Method;
 use name_tables::bodies::code_of;
 use name_tables::class_tables::ClassTable;
-use name_tables::lookups::MemberNumber;
+use name_tables::ids::{ClassId, MethodId};
 
 /// Whether a method has an entry point (ECMA-335 II.15.4.1.2).
 pub fn is_entry_point(method: &Method) -> bool
@@ -33,13 +33,14 @@ pub fn entry_index(methods: &[&Method]) -> Option<usize>
     None
 }
 
-/// The number of the first method with an entry point.
-pub(crate) fn entry_number(classes: &[ClassTable]) -> Option<MemberNumber>
+/// The id of the first method with an entry point.
+pub(crate) fn entry_number(classes: &[ClassTable]) -> Option<MethodId>
     ensures { option_map (λ m. (m.class, m.index)) result ≡ entry_from 0 (map (λ t. entry_of t.class) classes.now) }
 {
     for class in 0..classes.len() {
         if let Some(index) = entry_index(classes[class].class.methods.as_slice()) {
-            return Some(MemberNumber { class, index });
+            let class = ClassId::new(class);
+            return Some(MethodId { class, index });
         }
     }
     None

@@ -13,13 +13,14 @@ use crate::identities::Identities;
 use crate::items::{Resolve, resolve_all};
 use crate::labels::Labels;
 use crate::literals::Literals;
-use crate::numbering::{class_number, resolved_type};
+use crate::numbering::{class_id, resolved_type};
 use crate::operations::Operation;
 use cil_model::instructions::{BranchCondition, FieldReference, Instruction, MethodReference};
 use cil_model::texts::Text;
 use cil_model::trees::Line;
 use cil_model::types::{ClassName, DeclaredType, Signature};
-use name_tables::lookups::{MemberNumber, NameTables};
+use name_tables::ids::{ClassId, FieldId};
+use name_tables::lookups::NameTables;
 use std::alloc::Global;
 
 /// What the names of a tree are looked up in.
@@ -109,10 +110,10 @@ impl<'a> Resolver<'a> {
     // ---- fields
 
     /// A field of an object, after the class that the text names.
-    fn instance_field(&self, reference: &FieldReference) -> Option<(usize, MemberNumber)>
+    fn instance_field(&self, reference: &FieldReference) -> Option<(ClassId, FieldId)>
         ensures { result ≡ with_owner self.now.names.now.classes.tree.now reference.now.owner (λ owner field. (owner, field)) (field_rule self.now.names.now.classes.tree.now false reference.now) }
     {
-        let owner = class_number(self.names, &reference.owner)?;
+        let owner = class_id(self.names, &reference.owner)?;
         let field = self.names.find_field(false, reference)?;
         Some((owner, field))
     }
@@ -149,7 +150,7 @@ impl<'a> Resolver<'a> {
     {
         Some(Operation::Call {
             is_instance,
-            owner: class_number(self.names, &reference.owner)?,
+            owner: class_id(self.names, &reference.owner)?,
             method: self.names.find_method(is_instance, reference)?,
         })
     }
@@ -164,7 +165,7 @@ impl<'a> Resolver<'a> {
         ensures { result ≡ with_owner self.now.names.now.classes.tree.now owner.now CallVirtual (method_rule self.now.names.now.classes.tree.now true (virtual_reference owner.now name.now signature.now)) }
     {
         Some(Operation::CallVirtual {
-            owner: class_number(self.names, owner)?,
+            owner: class_id(self.names, owner)?,
             method: self.names.find_virtual(owner, name, signature)?,
         })
     }

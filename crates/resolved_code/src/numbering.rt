@@ -10,41 +10,42 @@ use crate::errors::ResolveError;
 use crate::items::Resolve;
 use crate::types::{ResolvedElement, ResolvedType};
 use cil_model::types::{ClassName, DeclaredType, Element};
+use name_tables::ids::ClassId;
 use name_tables::keys::ClassKey;
 use name_tables::lookups::NameTables;
 use std::alloc::Global;
 
-/// The number of the class that a name refers to.
-pub fn class_number(names: &NameTables, class: &ClassName) -> Option<usize>
+/// The id of the class that a name refers to.
+pub fn class_id(names: &NameTables, class: &ClassName) -> Option<ClassId>
     ensures { result ≡ class_number names.now.classes.tree.now class.now }
 {
     names.classes.number(ClassKey::of(class))
 }
 
-/// The number of the base, where one is named. Fails where the name refers to nothing.
-pub fn base_number(
+/// The id of the base, where one is named. Fails where the name refers to nothing.
+pub fn base_id(
     names: &NameTables,
     base: Option<&ClassName>,
-) -> Result<Option<usize>, ResolveError>
+) -> Result<Option<ClassId>, ResolveError>
     ensures { Gives result (if_named (class_number names.now.classes.tree.now) (option_map (λ b. b.now) base.entry)) }
 {
     match base {
         None => Ok(None),
-        Some(class) => match class_number(names, class) {
+        Some(class) => match class_id(names, class) {
             None => Err(ResolveError::Unresolved),
             found => Ok(found),
         },
     }
 }
 
-/// A class is resolved to its number.
+/// A class is resolved to its id.
 impl<'a> Resolve<ClassName> for NameTables<'a> {
-    type Resolved = usize;
+    type Resolved = ClassId;
 
     ghost rule = { λ names class. class_number names.classes.tree.now class };
 
-    fn resolve(&self, _alloc: Global, class: &ClassName) -> Result<usize, ResolveError> {
-        class_number(self, class).ok_or(ResolveError::Unresolved)
+    fn resolve(&self, _alloc: Global, class: &ClassName) -> Result<ClassId, ResolveError> {
+        class_id(self, class).ok_or(ResolveError::Unresolved)
     }
 }
 
@@ -56,7 +57,7 @@ fn resolved_element(names: &NameTables, element: &Element) -> Option<ResolvedEle
         Element::Int64 => ResolvedElement::Int64,
         Element::Object => ResolvedElement::Object,
         Element::String => ResolvedElement::String,
-        Element::Class(class) => ResolvedElement::Class(class_number(names, class)?),
+        Element::Class(class) => ResolvedElement::Class(class_id(names, class)?.number()),
     };
     Some(resolved)
 }

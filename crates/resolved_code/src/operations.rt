@@ -5,9 +5,9 @@ use cil_model::instructions::{
     BinaryOperation, BranchCondition, Comparison, ElementKind, ShiftOperation, UnaryOperation,
 };
 use cil_model::sequences::Sequence;
-use name_tables::lookups::MemberNumber;
+use name_tables::ids::{ClassId, FieldId, MethodId};
 
-/// An instruction, with numbers in place of names: the classes, fields and methods that its operand finds, the indices of its labels in
+/// An instruction, with ids and numbers in place of names: the classes, fields and methods that its operand finds, the indices of its labels in
 /// the method, and the number of its literal among those of the source.
 #[derive(Drop)]
 pub enum Operation {
@@ -51,18 +51,18 @@ pub enum Operation {
     Switch(Sequence<usize>),
     /// `ldfld`: the class that the text names, and the field that is found
     LoadField {
-        owner: usize,
-        field: MemberNumber,
+        owner: ClassId,
+        field: FieldId,
     },
     /// `stfld`
     StoreField {
-        owner: usize,
-        field: MemberNumber,
+        owner: ClassId,
+        field: FieldId,
     },
     /// `ldsfld`
-    LoadStaticField(MemberNumber),
+    LoadStaticField(FieldId),
     /// `stsfld`
-    StoreStaticField(MemberNumber),
+    StoreStaticField(FieldId),
     /// `newarr`
     NewArray(ResolvedType),
     /// `ldlen`
@@ -78,16 +78,16 @@ pub enum Operation {
     /// `call`: with `instance` or without, the class that the text names, and the method that is found
     Call {
         is_instance: bool,
-        owner: usize,
-        method: MemberNumber,
+        owner: ClassId,
+        method: MethodId,
     },
     /// `callvirt`
     CallVirtual {
-        owner: usize,
-        method: MemberNumber,
+        owner: ClassId,
+        method: MethodId,
     },
     /// `newobj`: the constructor, which its own class declares
-    NewObject(MemberNumber),
+    NewObject(MethodId),
     /// `ret`
     Return,
 }

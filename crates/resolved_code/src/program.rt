@@ -10,7 +10,7 @@ use crate::classes::{ResolvedClass, ResolvedField, ResolvedMethod};
 use crate::contents::{Contents, field_at, method_at};
 use cil_model::texts::Text;
 use cil_model::trees::Tree;
-use name_tables::lookups::MemberNumber;
+use name_tables::ids::{FieldId, MethodId};
 use std::marker::Model;
 
 /// A legal program: the tree, with its classes, literals and entry point by numbers. Classes 0 to 4 are the built-in ones, and
@@ -68,24 +68,22 @@ impl Program {
         self.contents.classes.as_slice()
     }
 
-    /// The field of a number: of a class, at an index among its fields (ECMA-335 II.16). None where there is no such class or
-    /// index.
-    pub fn field(&self, number: MemberNumber) -> Option<&ResolvedField>
-        ensures { IsFieldOf self.now number (option_map (λ f. f.now) result) }
+    /// The field of an id (ECMA-335 II.16). None where there is no such class or index.
+    pub fn field(&self, field: FieldId) -> Option<&ResolvedField>
+        ensures { IsFieldOf self.now field (option_map (λ f. f.now) result) }
     {
-        field_at(self.classes(), number)
+        field_at(self.classes(), field)
     }
 
-    /// The method of a number: of a class, at an index among its methods (ECMA-335 II.15). None where there is no such class or
-    /// index.
-    pub fn method(&self, number: MemberNumber) -> Option<&ResolvedMethod>
-        ensures { IsMethodOf self.now number (option_map (λ m. m.now) result) }
+    /// The method of an id (ECMA-335 II.15). None where there is no such class or index.
+    pub fn method(&self, method: MethodId) -> Option<&ResolvedMethod>
+        ensures { IsMethodOf self.now method (option_map (λ m. m.now) result) }
     {
-        method_at(self.classes(), number)
+        method_at(self.classes(), method)
     }
 
-    /// The number of the one method with an entry point (ECMA-335 II.15.4.1.2).
-    pub fn entry_point(&self) -> MemberNumber
+    /// The one method with an entry point (ECMA-335 II.15.4.1.2).
+    pub fn entry_point(&self) -> MethodId
         ensures { IsEntryPoint self.now result }
     {
         self.contents.entry_point

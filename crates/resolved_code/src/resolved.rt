@@ -13,7 +13,7 @@ use crate::identities::Identities;
 use crate::instructions::Resolver;
 use crate::items::{Resolve, resolve_all};
 use crate::literals::Literals;
-use crate::numbering::base_number;
+use crate::numbering::base_id;
 use cil_model::sequences::Sequence;
 use name_tables::class_tables::ClassTable;
 use name_tables::lookups::NameTables;
@@ -34,7 +34,7 @@ impl<'a, 'b> Resolve<ClassTable<'b>> for Resolver<'a> {
         Ok(ResolvedClass {
             is_interface: class.is_interface,
             is_abstract: class.is_abstract,
-            base: base_number(self.names, class.base)?,
+            base: base_id(self.names, class.base)?,
             interfaces: resolve_all(alloc, self.names, class.interfaces)?,
             fields: resolve_all(alloc, self.names, class.fields.as_slice())?,
             methods: resolve_all(alloc, self, class.methods.as_slice())?,

@@ -2,8 +2,7 @@
 
 use cil_model::values::ValueKind;
 
-/// A type without brackets (ECMA-335 II.7.1). A class or interface has its number among the built-in classes and then those of the
-/// source, in order.
+/// A type without brackets (ECMA-335 II.7.1). A class or interface has the number of its id.
 #[derive(Clone, Copy, PartialEq, Eq)]
 pub enum ResolvedElement {
     Int32,

@@ -10,7 +10,7 @@ use std::fmt::{Display, Write};
 
 /// A static field: the index of its class in the source, and that of its declaration among the members of the class.
 #[derive(Clone, Copy)]
-struct FieldId {
+struct FieldDeclaration {
     class: usize,
     member: usize,
 }
@@ -39,13 +39,13 @@ pub(crate) fn see_access(
 }
 
 /// The static field of a reference: of the class that is named, or of the nearest base class with a field of this name and type (ECMA-335 II.16).
-fn resolve(tree: &Tree, reference: &FieldReference) -> Option<FieldId> {
+fn resolve(tree: &Tree, reference: &FieldReference) -> Option<FieldDeclaration> {
     let mut owner = &reference.owner;
     for _class in 0..tree.classes.as_slice().len() {
         let class = class_index(tree, owner)?;
         let declared = tree.classes.as_slice().get(class)?;
         if let Some(member) = field_index(declared, reference) {
-            return Some(FieldId { class, member });
+            return Some(FieldDeclaration { class, member });
         }
         let ClassKind::Class { base, .. } = &declared.kind else {
             return None;
@@ -84,7 +84,12 @@ fn field_index(class: &Class, reference: &FieldReference) -> Option<usize> {
 }
 
 /// Adds a field with its name, as `Program::sum`, given the thread that loads or stores it first.
-fn add_field(scene: &mut Scene, tree: &Tree, id: FieldId, thread: usize) -> Result<(), AllocError> {
+fn add_field(
+    scene: &mut Scene,
+    tree: &Tree,
+    id: FieldDeclaration,
+    thread: usize,
+) -> Result<(), AllocError> {
     let from = scene.text.len();
     if let Some(class) = tree.classes.as_slice().get(id.class) {
         if let Some(Member::Field(field)) = class.members.as_slice().get(id.member) {

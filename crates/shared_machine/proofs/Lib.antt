@@ -1,6 +1,6 @@
 pub use Rattle.interleaving_core.proofs.simulation as simulation
 pub use Rattle.interleaving_core.proofs as interleaving_core
-pub mod Answering
+pub mod KnownAnswers
 pub mod Histories
 pub mod Lendings
 pub mod Bounds

@@ -223,7 +223,7 @@ impl Content {
 
 /// Paths and labels that are put together from pieces.
 impl Content {
-    /// Puts words behind what has been put of the next path or label.
+    /// Appends words to the next path or label.
     pub fn put(&mut self, words: &str) {
         if self.pending.push_str(words).is_err() {
             self.lose();

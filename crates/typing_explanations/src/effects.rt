@@ -5,7 +5,7 @@ ghost use Rattle.std.specs.Prelude.{◌<◌, IfSome};
 use crate::expected::Scene;
 use resolved_code::operations::Operation;
 use source_positions::cil_model::instructions::BranchCondition;
-use source_positions::name_tables::lookups::MemberNumber;
+use source_positions::name_tables::ids::MethodId;
 
 /// The number of values that an instruction pops whose operands are not declared types.
 fn count_popped(operation: &Operation) -> usize {
@@ -55,7 +55,7 @@ impl Scene<'_> {
     }
 
     /// Whether a method returns a value.
-    fn returns(self, method: MemberNumber) -> bool {
+    fn returns(self, method: MethodId) -> bool {
         match self.program.method(method) {
             None => false,
             Some(method) => method.return_type.is_some(),

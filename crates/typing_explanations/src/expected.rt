@@ -10,7 +10,7 @@ use resolved_code::types::ResolvedType;
 use source_positions::cil_model::instructions::{
     BranchComparison, BranchCondition, Comparison, ElementKind,
 };
-use source_positions::name_tables::lookups::MemberNumber;
+use source_positions::name_tables::ids::{FieldId, MethodId};
 use std::fmt;
 use std::fmt::Display;
 use std::slice::from_ref;
@@ -85,14 +85,14 @@ impl<'a> Scene<'a> {
         self.locals.get(index).copied()
     }
 
-    fn parameters_of(self, method: MemberNumber) -> &'a [ResolvedType] {
+    fn parameters_of(self, method: MethodId) -> &'a [ResolvedType] {
         match self.program.method(method) {
             None => &[],
             Some(method) => method.parameters.as_slice(),
         }
     }
 
-    fn field(self, field: MemberNumber) -> &'a [ResolvedType] {
+    fn field(self, field: FieldId) -> &'a [ResolvedType] {
         match self.program.field(field) {
             None => &[],
             Some(field) => from_ref(&field.field_type),

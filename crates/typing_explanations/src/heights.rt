@@ -9,7 +9,7 @@ use resolved_code::types::ResolvedType;
 use source_positions::cil_model::limits::MOST_STACK;
 use source_positions::cil_model::memory::NoMemory;
 use source_positions::method_of_number;
-use source_positions::name_tables::lookups::MemberNumber;
+use source_positions::name_tables::ids::{ClassId, MethodId};
 use std::alloc::Global;
 use verifier::Typing;
 use verifier::failures::TypingError;
@@ -26,13 +26,13 @@ fn height_of(typing: &Typing) -> usize {
     height
 }
 
-/// The number among all classes of a method of a source. None where it has no such method.
-fn member_number(program: &Program, method: usize) -> Option<MemberNumber> {
+/// The id of a method of a source. None where it has no such method.
+fn method_id(program: &Program, method: usize) -> Option<MethodId> {
     let sources = program.tree().classes.as_slice();
     let found = method_of_number(sources, method)?;
     let built_in = program.classes().len().checked_sub(sources.len())?;
-    Some(MemberNumber {
-        class: found.class.checked_add(built_in)?,
+    Some(MethodId {
+        class: ClassId::new(found.class.checked_add(built_in)?),
         index: found.index,
     })
 }
@@ -40,7 +40,7 @@ fn member_number(program: &Program, method: usize) -> Option<MemberNumber> {
 /// The types of the arguments of a method of a class.
 fn arguments_of(
     alloc: Global,
-    class: usize,
+    class: ClassId,
     method: &ResolvedMethod,
 ) -> Result<Vec<ResolvedType>, NoMemory>
     ensures { IfOk result (λ arguments. length method.now.parameters ≤ length arguments.items) }
@@ -57,7 +57,7 @@ fn arguments_of(
 fn height_of_body(
     alloc: Global,
     program: &Program,
-    class: usize,
+    class: ClassId,
     method: &ResolvedMethod,
     body: &Body,
 ) -> Result<usize, TypingError> {
@@ -81,16 +81,17 @@ pub fn needed_height(
     program: &Program,
     method: usize,
 ) -> Result<Option<usize>, TypingError> {
-    let Some(number) = member_number(program, method) else {
+    let Some(id) = method_id(program, method) else {
         return Ok(None);
     };
-    let Some(resolved) = program.method(number) else {
+    let class = id.class;
+    let Some(resolved) = program.method(id) else {
         return Ok(None);
     };
     match body_of(&resolved.kind) {
         None => Ok(None),
         Some(body) => {
-            let height = height_of_body(alloc, program, number.class, resolved, body)?;
+            let height = height_of_body(alloc, program, class, resolved, body)?;
             Ok(Some(height))
         }
     }

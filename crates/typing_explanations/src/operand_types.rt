@@ -106,7 +106,7 @@ impl Scene<'_> {
                 None => return false,
                 Some(number) => match classes.get(number) {
                     None => return false,
-                    Some(declared) => declared.base,
+                    Some(declared) => declared.base.map(|base| base.number()),
                 },
             };
         }

@@ -171,10 +171,10 @@ impl Refusal<'_> {
         match mismatch {
             Mismatch::NoSuchVariable(number) => self.write_location(f, *number),
             Mismatch::NoReference(declared) => self.write_no_reference(f, *declared),
-            Mismatch::AbstractMethod(method) => self.write_class(
+            Mismatch::AbstractMethod(class) => self.write_class(
                 f,
                 "names an abstract method of",
-                method.class,
+                *class,
                 "has no code: `callvirt` runs that of the object",
             ),
             Mismatch::AbstractClass(class) => {

@@ -10,7 +10,7 @@ use resolved_code::Program;
 use resolved_code::classes::{ResolvedKind, body_of};
 use source_positions::cil_model::memory::NoMemory;
 use source_positions::name_tables::built_in::BuiltInClass;
-use source_positions::name_tables::lookups::MemberNumber;
+use source_positions::name_tables::ids::{ClassId, MethodId};
 use source_positions::{Named, token_at};
 use std::alloc::Global;
 use std::fmt;
@@ -22,9 +22,9 @@ fn scene_of<'a>(
     names: ClassNames<'a>,
     found: SourceMethod,
 ) -> Option<Scene<'a>> {
-    let class = found.number.class.checked_add(names.built_in.len())?;
+    let class = ClassId::new(found.number.class.checked_add(names.built_in.len())?);
     let index = found.number.index;
-    let method = program.method(MemberNumber { class, index })?;
+    let method = program.method(MethodId { class, index })?;
     let body = body_of(&method.kind)?;
     let is_static = matches!(method.kind, ResolvedKind::Static(_));
     Some(Scene {

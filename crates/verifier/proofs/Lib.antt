@@ -1,4 +1,4 @@
-pub mod MemberNumbers
+pub mod MethodIds
 pub mod ArgumentLaws
 pub mod MethodLaws
 pub mod TypingLaws

@@ -11,7 +11,7 @@ use Rattle.cil_model.specs.Typings.{Typing, IsTypingOf}
 use Rattle.flow_rules.specs.declared.entries.StackEntry.{StackEntry}
 use Rattle.flow_rules.specs.Named.{type_named, types_named}
 use Rattle.flow_rules.proofs.MemberLaws.{return_is_named}
-use Rattle.name_tables.specs.declared.lookups.MemberNumber.{MemberNumber}
+use Rattle.name_tables.specs.declared.ids.MethodId.{MethodId}
 use Rattle.name_tables.specs.Numbers.{declarations, method_at}
 use Rattle.resolved_code.specs.Contents.{IsMethodOf}
 use Rattle.resolved_code.specs.Resolved.{BothAlike, IsBody, IsResolvedMethod}
@@ -39,10 +39,10 @@ module _ (tree : Tree) (owner : ClassName) (m : Method) where
       by_entry (Some e) at k = ap (option_map (λ (x : ClassName × Declaration). x.0)) at ∙ ap Some (by_method e (slice_get e.1.methods pc) k)
 
   -- it is there by numbers too
-  pub not_absent : (number : MemberNumber) → method_at tree (number.class, number.index) ≡ Some (owner, m) → IsMethodOf tree number None → ⊥
+  pub not_absent : (number : MethodId) → method_at tree (number.class, number.index) ≡ Some (owner, m) → IsMethodOf tree number None → ⊥
   not_absent number h is = subst (λ (o : Option (ClassName × Method)). BothAlike (λ (named : ClassName × Method) resolved. IsResolvedMethod tree named.1 resolved) o None) h is
 
-  pub is_resolved : (number : MemberNumber) (found : ResolvedMethod) → method_at tree (number.class, number.index) ≡ Some (owner, m) → IsMethodOf tree number (Some found) → IsResolvedMethod tree m found
+  pub is_resolved : (number : MethodId) (found : ResolvedMethod) → method_at tree (number.class, number.index) ≡ Some (owner, m) → IsMethodOf tree number (Some found) → IsResolvedMethod tree m found
   is_resolved number found h is = subst (λ (o : Option (ClassName × Method)). BothAlike (λ (named : ClassName × Method) resolved. IsResolvedMethod tree named.1 resolved) o (Some found)) h is
 
   -- a method without code has the empty typing

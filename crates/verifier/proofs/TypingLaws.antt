@@ -10,7 +10,7 @@ use Rattle.cil_model.specs.declared.trees.Method.{Method}
 use Rattle.cil_model.specs.Bodies.{source_methods}
 use Rattle.cil_model.specs.Typings.{Typing, IsTyping, IsAccepted, IsFirstUntyped}
 use Rattle.flow_rules.specs.declared.entries.StackEntry.{StackEntry}
-use Rattle.name_tables.specs.declared.lookups.MemberNumber.{MemberNumber}
+use Rattle.name_tables.specs.declared.ids.MethodId.{MethodId}
 use Rattle.name_tables.specs.Numbers.{method_at}
 use Rattle.verifier.specs.Answers.{typing_of}
 use Rattle.verifier.specs.declared.failures.TypingError.{TypingError}
@@ -22,7 +22,7 @@ use Rattle.verifier.specs.Verdicts.{AreTypings, AreOfMethods, AreVerdicts, IsMet
 use Rattle.cil_model.proofs.Lists.{none_is_outside, none_is_some}
 
 -- the method of a number, as the source has it
-pub method_there : (tree : Tree) (members : List MemberNumber) (n : ℕ) (member : MemberNumber) → methods_at tree members ≡ map Some (source_methods tree) → n < length members → member ≡ get_or members n member →
+pub method_there : (tree : Tree) (members : List MethodId) (n : ℕ) (member : MethodId) → methods_at tree members ≡ map Some (source_methods tree) → n < length members → member ≡ get_or members n member →
     (owner : ClassName) × (m : Method) × (slice_get (source_methods tree) n ≡ Some (owner, m)) × (method_at tree (member.class, member.index) ≡ Some (owner, m))
 method_there tree members n member all below at = by_method (slice_get (source_methods tree) n) refl shown
   where
@@ -30,7 +30,7 @@ method_there tree members n member all below at = by_method (slice_get (source_m
     there = slice_get_read members (length members) n member refl below at
 
     shown : Some (method_at tree (member.class, member.index)) ≡ option_map Some (slice_get (source_methods tree) n)
-    shown = sym (slice_get-map (λ (k : MemberNumber). method_at tree (k.class, k.index)) members n ∙ ap (option_map (λ (k : MemberNumber). method_at tree (k.class, k.index))) there)
+    shown = sym (slice_get-map (λ (k : MethodId). method_at tree (k.class, k.index)) members n ∙ ap (option_map (λ (k : MethodId). method_at tree (k.class, k.index))) there)
         ∙ (ap (λ ms. slice_get ms n) all ∙ slice_get-map Some (source_methods tree) n)
 
     by_method : (o : Option (ClassName × Method)) → slice_get (source_methods tree) n ≡ o → Some (method_at tree (member.class, member.index)) ≡ option_map Some o →
@@ -83,8 +83,8 @@ accepted tree typings legal are = record {
 }
 
 -- the methods of that many numbers
-pub same_count : (tree : Tree) (members : List MemberNumber) → methods_at tree members ≡ map Some (source_methods tree) → length members ≡ length (source_methods tree)
-same_count tree members all = sym (length-map members (λ (k : MemberNumber). method_at tree (k.class, k.index))) ∙ (ap length all ∙ length-map (source_methods tree) Some)
+pub same_count : (tree : Tree) (members : List MethodId) → methods_at tree members ≡ map Some (source_methods tree) → length members ≡ length (source_methods tree)
+same_count tree members all = sym (length-map members (λ (k : MethodId). method_at tree (k.class, k.index))) ∙ (ap length all ∙ length-map (source_methods tree) Some)
 
 -- a typing that is found by the number of a method is one of it
 pub kept_at : {B : Type 0} (shown : B → List (Option (List StackEntry))) (tree : Tree) (typings : List (List (Option (List StackEntry)))) (n : ℕ) (found : Option B) (owner : ClassName) (m : Method) →
@@ -116,9 +116,9 @@ none_beyond shown tree typings n (Some b) e are beyond =
 
 -- ---- one method after another
 
-module _ (tree : Tree) (members : List MemberNumber) (typings : List (List (Option (List StackEntry)))) (n : ℕ) (other : MemberNumber) (all : methods_at tree members ≡ map Some (source_methods tree))
+module _ (tree : Tree) (members : List MethodId) (typings : List (List (Option (List StackEntry)))) (n : ℕ) (other : MethodId) (all : methods_at tree members ≡ map Some (source_methods tree))
     (below : n < length members) (counted : length typings ≡ n) (kept : AreOfMethods tree typings) where
-  abbrev pub member : MemberNumber
+  abbrev pub member : MethodId
   member = get_or members n other
 
   there : (owner : ClassName) × (m : Method) × (slice_get (source_methods tree) n ≡ Some (owner, m)) × (method_at tree (member.class, member.index) ≡ Some (owner, m))

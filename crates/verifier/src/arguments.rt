@@ -13,6 +13,7 @@ ghost use Rattle.resolved_code.specs.ById.{class_name};
 
 use cil_model::memory::NoMemory;
 use flow_rules::type_tree::type_of_class;
+use name_tables::ids::ClassId;
 use resolved_code::classes::{ResolvedKind, ResolvedMethod};
 use resolved_code::types::ResolvedType;
 use std::alloc::Global;
@@ -33,7 +34,7 @@ fn is_static(kind: &ResolvedKind) -> bool
 #[tactic(auto, using(crate::proofs::ArgumentLaws::static_arguments, crate::proofs::ArgumentLaws::instance_arguments))]
 pub(crate) fn arguments_of(
     alloc: Global,
-    class: usize,
+    class: ClassId,
     method: &ResolvedMethod,
 ) -> Result<Vec<ResolvedType>, NoMemory>
     ensures { (tree : Tree) (owner : ClassName) (m : Method) → class_name tree class ≡ Some owner → IsResolvedMethod tree m method.now →

@@ -19,7 +19,7 @@ use crate::refusals::{VerifyError, refusal_in};
 use crate::search::find_typing;
 use cil_model::sequences::Sequence;
 use flow_rules::type_tree::TypeTree;
-use name_tables::lookups::MemberNumber;
+use name_tables::ids::{ClassId, MethodId};
 use resolved_code::Program;
 use resolved_code::classes::{Body, ResolvedMethod, body_of};
 use std::alloc::Global;
@@ -39,7 +39,7 @@ fn typing_of_body(
     alloc: Global,
     types: &TypeTree,
     program: &Program,
-    class: usize,
+    class: ClassId,
     method: &ResolvedMethod,
     body: &Body,
 ) -> Result<Typing, TypingError>
@@ -52,32 +52,33 @@ fn typing_of_body(
     find_typing(types, arguments.as_slice(), method.return_type, body, alloc)
 }
 
-/// The typing of the method of a number.
+/// The typing of the method of an id.
 #[tactic(auto, using(crate::proofs::MethodLaws::owner_named, crate::proofs::MethodLaws::not_absent, crate::proofs::MethodLaws::is_resolved, crate::proofs::MethodLaws::empty_verdict, crate::proofs::MethodLaws::code_there))]
 fn typing_of(
     alloc: Global,
     types: &TypeTree,
     program: &Program,
-    member: MemberNumber,
+    member: MethodId,
 ) -> Result<Typing, TypingError>
     requires { types.now ≡ program.now }
     ensures { (owner : ClassName) (m : Method) → method_at program.now (member.class, member.index) ≡ Some (owner, m) → IsMethodVerdict program.now owner m result }
 {
+    let class = member.class;
     let Some(method) = program.method(member) else {
         return Ok(empty_typing(alloc));
     };
     match body_of(&method.kind) {
         None => Ok(empty_typing(alloc)),
-        Some(body) => typing_of_body(alloc, types, program, member.class, method, body),
+        Some(body) => typing_of_body(alloc, types, program, class, method, body),
     }
 }
 
-/// A typing of each method of these numbers, by the program's tree of types.
+/// A typing of each method of these ids, by the program's tree of types.
 fn typings_by(
     alloc: Global,
     types: &TypeTree,
     program: &Program,
-    members: &[MemberNumber],
+    members: &[MethodId],
 ) -> Result<Sequence<Typing>, VerifyError>
     requires { types.now ≡ program.now }
     ensures { methods_at program.now members.now ≡ map Some (source_methods program.now) → AreVerdicts program.now result }

@@ -21,7 +21,7 @@ use Rattle.cil_model.specs.Mentions.{literals_of}
 use Rattle.cil_model.specs.Same.{same_flag}
 use Rattle.cil_model.proofs.Lists.{none_is_some}
 use Rattle.cil_model.proofs.Legal.{entry_alone}
-use Rattle.name_tables.specs.declared.lookups.MemberNumber.{MemberNumber}
+use Rattle.name_tables.specs.declared.ids.MethodId.{MethodId}
 use Rattle.name_tables.specs.Numbers.{declarations, method_at, source_entry}
 use Rattle.resolved_code.proofs.Numbers.Classes.{FoundAt, found_at, number_of_index as class_of_index}
 use Rattle.phase_handshake.specs.Handshakes.{Handshakes, first_handshakes}
@@ -39,7 +39,7 @@ use Rattle.simulation.proofs.loaded_program.NumberLaws.{number_of_index}
 use Rattle.threads_monitors.specs.Frames.{zero_value}
 use Rattle.threads_monitors.specs.declared.threads.Thread.{Thread}
 use Rattle.simulation.specs.interpreter.Calls.{chosen_method, chosen_at, chosen_by, class_at}
-use Rattle.simulation.proofs.interpreter.Running.{there_is}
+use Rattle.simulation.proofs.interpreter.MethodsToRun.{there_is}
 use Rattle.simulation.specs.loaded_program.Loaded.{target_in}
 use Rattle.simulation.proofs.loaded_program.OperandLaws.{then_some}
 use Rattle.simulation.specs.Transitions.{machine_state_at, initial_machine_state, run_member, thread_at, thread_for}
@@ -94,7 +94,7 @@ module _ (tree : Tree) where
     statics_at_first = all_zeros tree.classes fields_of_source
 
     -- the entry point is there, and the first
-    pub entry_there : (number : MemberNumber) → IsEntryPoint tree number →
+    pub entry_there : (number : MethodId) → IsEntryPoint tree number →
         (found : ClassName × Method) × (method_at tree (number.class, number.index) ≡ Some found) × (slice_get (entry_points tree) 0 ≡ Some found)
     entry_there number is = by_member (method_at tree (number.class, number.index)) refl is
       where

@@ -23,7 +23,7 @@ use Rattle.reference_machine.proofs.Programs.MethodTypings.{IsDeclared, found_is
 use Rattle.simulation.proofs.reference_machine.Programs.BuiltInMembers.{acts_as_member}
 use Rattle.simulation.specs.reference_machine.Waits.{action_found, called_action}
 use Rattle.simulation.proofs.reference_machine.Programs.ActingMembers.{acting_is_not_virtual}
-use Rattle.name_tables.specs.declared.lookups.MemberNumber.{MemberNumber}
+use Rattle.name_tables.specs.declared.ids.MethodId.{MethodId}
 use Rattle.name_tables.specs.Numbers.{method_at}
 use Rattle.resolved_code.specs.ById.{class_name}
 use Rattle.resolved_code.specs.Resolved.{IsMethod, IsOperation, call, call_virtual}
@@ -47,7 +47,7 @@ use Rattle.simulation.specs.instructions.ObjectTransitions.{ObjectTransition, be
 use Rattle.simulation.specs.instructions.BuiltInTransitions.{carry, is_countable, reference_from}
 use Rattle.simulation.specs.interpreter.Calls.{CallTransition, act_transition, beside_console, call_answer, called_as, chosen_method, chosen_by, class_at, class_of_kind, receiver, run_transition, top_reference, run_on}
 use Rattle.simulation.specs.interpreter.Instructions.{Answer, HasSmallConstant, IsAt, IsDone, MachineTransition, answer_of, line_at, of_calls, operation_transition}
-use Rattle.simulation.proofs.interpreter.Linking.{call_does, virtual_does}
+use Rattle.simulation.proofs.interpreter.LinkedTransitions.{call_does, virtual_does}
 use Rattle.simulation.specs.interpreter.declared.outcomes.InstructionOutcome.TheVariants.{OwnEffect, Joins}
 use Rattle.simulation.specs.MachineStates.{MachineState, mutator_of}
 use Rattle.simulation.specs.Ready.{IsAnswerable, IsReady}
@@ -57,8 +57,8 @@ use Rattle.interleaving_core.specs.Waits.{HasObject, action_at, called_member}
 
 -- a call, with what runs for it; or an instruction that calls no built-in member that acts
 pub data Calls (tree : Tree) : Instruction → Operation → Type 0 where
-  plainly : (flag : Bool) (r : MethodReference) (owner : ℕ) (method : MemberNumber) → IsMethod tree flag r method → Calls tree (Named.Call flag r) (Resolved.Call flag owner method)
-  virtually : (c : ClassName) (name : List ℕ) (signature : Signature) (owner : ℕ) (method : MemberNumber) → IsMethod tree true (virtual_reference c name signature) method →
+  plainly : (flag : Bool) (r : MethodReference) (owner : ℕ) (method : MethodId) → IsMethod tree flag r method → Calls tree (Named.Call flag r) (Resolved.Call flag owner method)
+  virtually : (c : ClassName) (name : List ℕ) (signature : Signature) (owner : ℕ) (method : MethodId) → IsMethod tree true (virtual_reference c name signature) method →
       Calls tree (Named.CallVirtual c name signature) (Resolved.CallVirtual owner method)
   nothing : (i : Instruction) (op : Operation) → called_action tree i ≡ None → called_member op ≡ None → Calls tree i op
 
@@ -86,14 +86,14 @@ module _ (tree : Tree) (m : Frames) (op : Operation) (at : IsAt tree m op) where
       by_calls _ _ (nothing i o none' e') e = none'
 
   -- and else it is that of the method of the member's number
-  pub member_acts : (method : MemberNumber) → called_member op ≡ Some method → (found : ClassName × Method) × (method_at tree (method.class, method.index) ≡ Some found) × (action_at tree m ≡ action_of found.0 found.1)
+  pub member_acts : (method : MethodId) → called_member op ≡ Some method → (found : ClassName × Method) × (method_at tree (method.class, method.index) ≡ Some found) × (action_at tree m ≡ action_of found.0 found.1)
   member_acts method is = by_calls at.line.instruction op (calls_of tree (lines_of at.found.1) at.line.instruction op at.refines) is action_is
     where
       Acting : Option Action → Type 0
       Acting a = (found : ClassName × Method) × (method_at tree (method.class, method.index) ≡ Some found) × (a ≡ action_of found.0 found.1)
 
-      found_acts : (flag : Bool) (r : MethodReference) (k : MemberNumber) → IsMethod tree flag r k → k ≡ method → (a : Option Action) → a ≡ action_found (find_method tree flag r) → Acting a
-      found_acts flag r k finds same a e = ((finds.declared_in, finds.found), subst (λ (x : MemberNumber). method_at tree (x.class, x.index) ≡ Some (finds.declared_in, finds.found)) same finds.has_id, e ∙ ap action_found finds.finds)
+      found_acts : (flag : Bool) (r : MethodReference) (k : MethodId) → IsMethod tree flag r k → k ≡ method → (a : Option Action) → a ≡ action_found (find_method tree flag r) → Acting a
+      found_acts flag r k finds same a e = ((finds.declared_in, finds.found), subst (λ (x : MethodId). method_at tree (x.class, x.index) ≡ Some (finds.declared_in, finds.found)) same finds.has_id, e ∙ ap action_found finds.finds)
 
       by_calls : (i : Instruction) (o : Operation) → Calls tree i o → called_member o ≡ Some method → action_at tree m ≡ called_action tree i → Acting (action_at tree m)
       by_calls _ _ (plainly flag r owner k finds) e a = found_acts flag r k finds (same_Some k method e) (action_at tree m) a
@@ -130,7 +130,7 @@ module _ (tree : Tree) (mutator : Mutator) (m : Frames) (o : Objects) (ss : List
       otherwise : CallTransition
       otherwise = when_some (number_of tree found) (λ n. beside_console pr (beside o (call_transition (called_as found n) m)))
 
-  plain_is : (flag : Bool) (r : MethodReference) (owner : ℕ) (method : MemberNumber) → IsMethod tree flag r method → called_action tree (Named.Call flag r) ≡ Some a →
+  plain_is : (flag : Bool) (r : MethodReference) (owner : ℕ) (method : MethodId) → IsMethod tree flag r method → called_action tree (Named.Call flag r) ≡ Some a →
       operation_transition tree mutator (Resolved.Call flag owner method) m o ss pr ≡ acted
   plain_is flag r owner method finds acts =
       let own : action_of finds.declared_in finds.found ≡ Some a = sym (ap action_found finds.finds) ∙ acts in
@@ -144,7 +144,7 @@ module _ (tree : Tree) (mutator : Mutator) (m : Frames) (o : Objects) (ss : List
       itself : (d : ClassName) → target tree d found.0 found.1 ≡ Some found
       itself d = ap (λ b. if b then (if is_interface tree found.0 then interface_target tree found.1.name found.1.signature d found.0 else class_target tree found.1.name found.1.signature d found.0) else Some found) plain
 
-  virtual_is : (c : ClassName) (name : List ℕ) (signature : Signature) (owner : ℕ) (method : MemberNumber) → IsMethod tree true (virtual_reference c name signature) method → called_action tree (Named.CallVirtual c name signature) ≡ Some a →
+  virtual_is : (c : ClassName) (name : List ℕ) (signature : Signature) (owner : ℕ) (method : MethodId) → IsMethod tree true (virtual_reference c name signature) method → called_action tree (Named.CallVirtual c name signature) ≡ Some a →
       IsSome (operation_transition tree mutator (Resolved.CallVirtual owner method) m o ss pr) → operation_transition tree mutator (Resolved.CallVirtual owner method) m o ss pr ≡ acted
   virtual_is c name signature owner method finds acts there = whole ∙ by_run (chosen_method tree o x found) refl (subst IsSome whole there)
     where

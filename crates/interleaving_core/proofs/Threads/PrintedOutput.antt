@@ -22,7 +22,7 @@ use Rattle.simulation.specs.reference_machine.Waits.{action_found, called_action
 use Rattle.simulation.proofs.reference_machine.Programs.ActingMembers.{virtual_target_does_not_act}
 use Rattle.simulation.proofs.CollectorEvents.UnchangedState.{collected_keeps}
 use Rattle.simulation.proofs.Threads.StepEffects.{finished_printed}
-use Rattle.name_tables.specs.declared.lookups.MemberNumber.{MemberNumber}
+use Rattle.name_tables.specs.declared.ids.MethodId.{MethodId}
 use Rattle.name_tables.specs.Numbers.{method_at}
 use Rattle.resolved_code.specs.ById.{class_name}
 use Rattle.resolved_code.specs.declared.operations.Operation.{Operation}
@@ -50,7 +50,7 @@ use Rattle.object_memory.specs.declared.addresses.TheConstants.{FIRST_LITERAL}
 use Rattle.simulation.specs.loaded_program.declared.instructions.LinkedInstruction.{LinkedInstruction}
 use Rattle.simulation.specs.loaded_program.Links.{number_at}
 use Rattle.simulation.specs.loaded_program.Operands.{array_held, class_in, held_at, slot_at, slots_at, static_at}
-use Rattle.simulation.proofs.interpreter.Linking.{call_does, virtual_does}
+use Rattle.simulation.proofs.interpreter.LinkedTransitions.{call_does, virtual_does}
 use Rattle.simulation.specs.interpreter.declared.outcomes.InstructionOutcome.{InstructionOutcome}
 use Rattle.simulation.specs.interpreter.declared.outcomes.InstructionOutcome.TheVariants.{OwnEffect, Starts, Joins}
 use Rattle.simulation.specs.MachineStates.{MachineState, mutator_of}
@@ -199,12 +199,12 @@ module _ (tree : Tree) (mutator : Mutator) (m : Frames) (o : Objects) (ss : List
   runs found (Some a) e = acts a e
 
   -- call
-  called : (flag : Bool) (owner : ℕ) (method : MemberNumber) (found : ClassName × Method) → method_at tree (method.class, method.index) ≡ Some found →
+  called : (flag : Bool) (owner : ℕ) (method : MethodId) (found : ClassName × Method) → method_at tree (method.class, method.index) ≡ Some found →
       Some answer ≡ operation_transition tree mutator (Call flag owner method) m o ss c → Within (print_of (action_of found.0 found.1))
   called flag owner method found has_id e = runs found (action_of found.0 found.1) (e ∙ call_does tree mutator m o ss c method found has_id flag owner)
 
   -- callvirt
-  called_virtually : (owner : ℕ) (method : MemberNumber) (found : ClassName × Method) → IsDeclared tree found.0 found.1 → method_at tree (method.class, method.index) ≡ Some found →
+  called_virtually : (owner : ℕ) (method : MethodId) (found : ClassName × Method) → IsDeclared tree found.0 found.1 → method_at tree (method.class, method.index) ≡ Some found →
       Some answer ≡ operation_transition tree mutator (CallVirtual owner method) m o ss c → Within (print_of (action_of found.0 found.1))
   called_virtually owner method found declared has_id e =
       by_receiver (receiver m.running.stack (length (argument_types found.1 found.0))) (e ∙ virtual_does tree mutator m o ss c method found has_id owner)

@@ -23,7 +23,8 @@ use Rattle.cil_model.specs.Chains.{find_field, find_method}
 use Rattle.cil_model.specs.Mentions.{literals_of}
 use Rattle.cil_model.proofs.Lists.{none_is_some, find_passes}
 use Rattle.cil_model.proofs.SameLaws.{same_text_equal}
-use Rattle.name_tables.specs.declared.lookups.MemberNumber.{MemberNumber}
+use Rattle.name_tables.specs.declared.ids.FieldId.{FieldId}
+use Rattle.name_tables.specs.declared.ids.MethodId.{MethodId}
 use Rattle.name_tables.specs.Numbers.{class_number, field_number, method_number, field_at, method_at, declarations}
 use Rattle.name_tables.proofs.NumberLaws.{HasId, has_id, field_has_id, method_has_id, found_at_index, found_some}
 use Rattle.resolved_code.specs.declared.types.ResolvedElement.{ResolvedElement}
@@ -41,7 +42,7 @@ use Rattle.resolved_code.specs.ById.{class_name, element_at, type_at, AreTypes}
 use Rattle.name_tables.specs.Sameness.{identity_of}
 use Rattle.resolved_code.specs.Identities.{identity_number}
 use Rattle.resolved_code.specs.Resolved.{AllAlike, IsField, IsMethod, IsOperation, IsResolvedField, IsBody, IsResolvedKind, IsResolvedMethod, IsResolvedClass, AreResolved}
-use Rattle.resolved_code.specs.Rules.{all_some, if_named, element_rule, type_rule, types_rule, member_of, field_rule, method_rule, with_owner, operation_rule, operations_rule, body_rule, kind_rule, resolved_method_rule, resolved_field_rule, class_rule, classes_rule}
+use Rattle.resolved_code.specs.Rules.{all_some, if_named, element_rule, type_rule, types_rule, field_id, method_id, field_rule, method_rule, with_owner, operation_rule, operations_rule, body_rule, kind_rule, resolved_method_rule, resolved_field_rule, class_rule, classes_rule}
 
 -- ---- what was found, taken apart
 
@@ -113,22 +114,22 @@ module _ (tree : Tree) where
 
   -- ---- operands
 
-  pub field_refines : (is_static : Bool) (r : FieldReference) (m : MemberNumber) → field_rule tree is_static r ≡ Some m → IsField tree is_static r m
-  field_refines is_static r m h = mapped (IsField tree is_static r) member_of (field_number tree is_static r) m h (λ p e. by_found p e (find_field tree is_static r) refl (sym (ap (option_map (field_at tree)) e) ∙ field_has_id tree is_static r))
+  pub field_refines : (is_static : Bool) (r : FieldReference) (m : FieldId) → field_rule tree is_static r ≡ Some m → IsField tree is_static r m
+  field_refines is_static r m h = mapped (IsField tree is_static r) field_id (field_number tree is_static r) m h (λ p e. by_found p e (find_field tree is_static r) refl (sym (ap (option_map (field_at tree)) e) ∙ field_has_id tree is_static r))
     where
-      by_found : (p : ℕ × ℕ) → field_number tree is_static r ≡ Some p → (f : Option (ClassName × Field)) → find_field tree is_static r ≡ f → Some (field_at tree p) ≡ option_map Some f → IsField tree is_static r (member_of p)
+      by_found : (p : ℕ × ℕ) → field_number tree is_static r ≡ Some p → (f : Option (ClassName × Field)) → find_field tree is_static r ≡ f → Some (field_at tree p) ≡ option_map Some f → IsField tree is_static r (field_id p)
       by_found p e None k g = none_is_some (field_at tree p) (sym g)
       by_found p e (Some x) k g = record { declared_in = x.0; found = x.1; finds = k; has_id = (let s : field_at tree p ≡ Some x = cc in s) }
 
-  pub method_refines : (is_instance : Bool) (r : MethodReference) (m : MemberNumber) → method_rule tree is_instance r ≡ Some m → IsMethod tree is_instance r m
-  method_refines is_instance r m h = mapped (IsMethod tree is_instance r) member_of (method_number tree is_instance r) m h (λ p e. by_found p e (find_method tree is_instance r) refl (sym (ap (option_map (method_at tree)) e) ∙ method_has_id tree is_instance r))
+  pub method_refines : (is_instance : Bool) (r : MethodReference) (m : MethodId) → method_rule tree is_instance r ≡ Some m → IsMethod tree is_instance r m
+  method_refines is_instance r m h = mapped (IsMethod tree is_instance r) method_id (method_number tree is_instance r) m h (λ p e. by_found p e (find_method tree is_instance r) refl (sym (ap (option_map (method_at tree)) e) ∙ method_has_id tree is_instance r))
     where
-      by_found : (p : ℕ × ℕ) → method_number tree is_instance r ≡ Some p → (f : Option (ClassName × Method)) → find_method tree is_instance r ≡ f → Some (method_at tree p) ≡ option_map Some f → IsMethod tree is_instance r (member_of p)
+      by_found : (p : ℕ × ℕ) → method_number tree is_instance r ≡ Some p → (f : Option (ClassName × Method)) → find_method tree is_instance r ≡ f → Some (method_at tree p) ≡ option_map Some f → IsMethod tree is_instance r (method_id p)
       by_found p e None k g = none_is_some (method_at tree p) (sym g)
       by_found p e (Some x) k g = record { declared_in = x.0; found = x.1; finds = k; has_id = (let s : method_at tree p ≡ Some x = cc in s) }
 
-  owned : (P : Operation → Type 0) (c : ClassName) (make : ℕ → MemberNumber → Operation) (member : Option MemberNumber) (o : Operation) → with_owner tree c make member ≡ Some o →
-      ((owner : ℕ) (m : MemberNumber) → class_name tree owner ≡ Some c → member ≡ Some m → P (make owner m)) → P o
+  owned : {M : Type 0} (P : Operation → Type 0) (c : ClassName) (make : ℕ → M → Operation) (member : Option M) (o : Operation) → with_owner tree c make member ≡ Some o →
+      ((owner : ℕ) (m : M) → class_name tree owner ≡ Some c → member ≡ Some m → P (make owner m)) → P o
   owned P c make member o h each =
       chosen (λ owner. option_map (make owner) member) (class_number tree c) o h (λ owner e k. mapped P (make owner) member o k (λ m g. each owner m (number_refines c owner e) g))
 

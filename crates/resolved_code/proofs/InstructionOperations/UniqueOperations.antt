@@ -26,11 +26,12 @@ use Rattle.cil_model.proofs.Legal.{unbroken}
 use Rattle.cil_model.proofs.Lists.{none_is_some, once_kept, passes_not}
 use Rattle.cil_model.proofs.SameLaws.{never, same_method_name_itself, same_signature_itself, same_text_itself, text_equivalence}
 use Rattle.name_tables.specs.Numbers.{class_number, declarations, field_number, member_at, method_number, source_entry}
-use Rattle.name_tables.specs.declared.lookups.MemberNumber.{MemberNumber}
+use Rattle.name_tables.specs.declared.ids.FieldId.{FieldId}
+use Rattle.name_tables.specs.declared.ids.MethodId.{MethodId}
 use Rattle.name_tables.proofs.NumberLaws.{field_has_id, method_has_id}
 use Rattle.resolved_code.specs.ById.{class_name, element_at, type_at}
 use Rattle.resolved_code.specs.Resolved.{IsField, IsMethod, IsOperation}
-use Rattle.resolved_code.specs.Rules.{all_some, element_rule, field_rule, member_of, method_rule, operation_rule, type_rule, with_owner}
+use Rattle.resolved_code.specs.Rules.{all_some, element_rule, field_id, field_rule, method_id, method_rule, operation_rule, type_rule, with_owner}
 use Rattle.resolved_code.specs.declared.operations.Operation.{Operation}
 use Rattle.resolved_code.specs.declared.operations.Operation.TheVariants as Resolved
 use Rattle.resolved_code.specs.declared.types.ResolvedElement.{ResolvedElement}
@@ -135,10 +136,10 @@ module _ (tree : Tree) (legal : IsLegal tree) where
           ap (λ (n : ℕ). (n, p.1)) classes ∙ ap (λ (n : ℕ). (q.0, n)) indices
 
       -- what is found has the number of its index
-      found_is : (o : Option (ℕ × ℕ)) (found : Option (ClassName × X)) → option_map (member_at part tree) o ≡ option_map Some found
-          → (x : ClassName × X) → found ≡ Some x → (m : MemberNumber) → member_at part tree (m.class, m.index) ≡ Some x → option_map member_of o ≡ Some m
-      found_is None found alike x is m e = none_is_some (Some x) (alike ∙ ap (option_map Some) is)
-      found_is (Some p) found alike x is m e = ap (λ (y : ℕ × ℕ). Some (member_of y)) (member_once p (m.class, m.index) x (same_Some _ _ (alike ∙ ap (option_map Some) is)) e)
+      found_is : {M : Type 0} (make : ℕ × ℕ → M) (o : Option (ℕ × ℕ)) (found : Option (ClassName × X)) → option_map (member_at part tree) o ≡ option_map Some found
+          → (x : ClassName × X) → found ≡ Some x → (q : ℕ × ℕ) → member_at part tree q ≡ Some x → option_map make o ≡ Some (make q)
+      found_is make None found alike x is q e = none_is_some (Some x) (alike ∙ ap (option_map Some) is)
+      found_is make (Some p) found alike x is q e = ap (λ (y : ℕ × ℕ). Some (make y)) (member_once p q x (same_Some _ _ (alike ∙ ap (option_map Some) is)) e)
 
   abbrev same_name : Field → Field → Bool
   same_name a b = same_text a.name b.name
@@ -160,17 +161,17 @@ module _ (tree : Tree) (legal : IsLegal tree) where
   all_once : list_any duplicates (declarations tree) ≡ false
   all_once = let h : doubles_name tree ≡ false = (unbroken _ 201 _ legal).0 in source_once tree.classes (or_parts _ _ h).1
 
-  field_is : (is_static : Bool) (r : FieldReference) (m : MemberNumber) → IsField tree is_static r m → field_rule tree is_static r ≡ Some m
+  field_is : (is_static : Bool) (r : FieldReference) (m : FieldId) → IsField tree is_static r m → field_rule tree is_static r ≡ Some m
   field_is is_static r m f =
       found_is (λ d. d.fields) same_name (λ x. same_text_itself x.name) (λ n e there. (or_parts _ _ (passes_not duplicates (declarations tree) n e all_once there)).0)
-      (field_number tree is_static r) (find_field tree is_static r) (field_has_id tree is_static r) (f.declared_in, f.found) f.finds m f.has_id
+      field_id (field_number tree is_static r) (find_field tree is_static r) (field_has_id tree is_static r) (f.declared_in, f.found) f.finds (m.class, m.index) f.has_id
 
-  method_is : (is_instance : Bool) (r : MethodReference) (m : MemberNumber) → IsMethod tree is_instance r m → method_rule tree is_instance r ≡ Some m
+  method_is : (is_instance : Bool) (r : MethodReference) (m : MethodId) → IsMethod tree is_instance r m → method_rule tree is_instance r ≡ Some m
   method_is is_instance r m f =
       found_is (λ d. d.methods) same_method (λ x. and_from _ _ (same_method_name_itself x.name) (same_signature_itself x.signature)) (λ n e there. (or_parts _ _ (passes_not duplicates (declarations tree) n e all_once there)).1)
-      (method_number tree is_instance r) (find_method tree is_instance r) (method_has_id tree is_instance r) (f.declared_in, f.found) f.finds m f.has_id
+      method_id (method_number tree is_instance r) (find_method tree is_instance r) (method_has_id tree is_instance r) (f.declared_in, f.found) f.finds (m.class, m.index) f.has_id
 
-  with_owner_is : (c : ClassName) (make : ℕ → MemberNumber → Operation) (o : Option MemberNumber) (owner : ℕ) (m : MemberNumber) → class_name tree owner ≡ Some c → o ≡ Some m → with_owner tree c make o ≡ Some (make owner m)
+  with_owner_is : {M : Type 0} (c : ClassName) (make : ℕ → M → Operation) (o : Option M) (owner : ℕ) (m : M) → class_name tree owner ≡ Some c → o ≡ Some m → with_owner tree c make o ≡ Some (make owner m)
   with_owner_is c make o owner m named is =
       ap (option_and_then {U = Operation} (λ (n : ℕ). option_map (make n) o)) (number_is owner c named) ∙ ap (option_map (make owner)) is
 

@@ -38,9 +38,10 @@ use Rattle.name_tables.specs.Sameness.{same_field, same_called, called_of}
 use Rattle.name_tables.specs.Numbers.{class_number, index_in, nearest_number, field_number, method_number, field_at, method_at, declarations, source_entry}
 use Rattle.name_tables.proofs.FirstIndices.{is_some-position_from}
 use Rattle.name_tables.proofs.NumberLaws.{declared_at_none, field_has_id, method_has_id, numbers_of_unknown}
-use Rattle.name_tables.specs.declared.lookups.MemberNumber.{MemberNumber}
+use Rattle.name_tables.specs.declared.ids.FieldId.{FieldId}
+use Rattle.name_tables.specs.declared.ids.MethodId.{MethodId}
 use Rattle.resolved_code.specs.declared.operations.Operation.{Operation}
-use Rattle.resolved_code.specs.Rules.{all_some, if_named, element_rule, type_rule, types_rule, member_of, with_owner, operation_rule, operations_rule, body_rule, kind_rule, resolved_method_rule, resolved_field_rule, class_rule, classes_rule}
+use Rattle.resolved_code.specs.Rules.{all_some, if_named, element_rule, type_rule, types_rule, field_id, method_id, with_owner, operation_rule, operations_rule, body_rule, kind_rule, resolved_method_rule, resolved_field_rule, class_rule, classes_rule}
 use Rattle.resolved_code.proofs.Numbers.Literals.{all_among_once}
 
 -- ---- tests
@@ -186,15 +187,15 @@ module _ (tree : Tree) where
   abbrev operand_test : Instruction → Bool
   operand_test i = list_all is_type_found (types_of_instruction i)
 
-  on_field : (lines : List Line) (make : ℕ → MemberNumber → Operation) (r : FieldReference) (is_static : Bool) → is_some (find_field tree is_static r) ≡ true → is_some (with_owner tree r.owner make (option_map member_of (field_number tree is_static r))) ≡ true
+  on_field : (lines : List Line) (make : ℕ → FieldId → Operation) (r : FieldReference) (is_static : Bool) → is_some (find_field tree is_static r) ≡ true → is_some (with_owner tree r.owner make (option_map field_id (field_number tree is_static r))) ≡ true
   on_field lines make r is_static h =
       let n = field_there is_static r h in
-      then_kept _ (class_number tree r.owner) (field_owner is_static r n) (λ owner. kept _ (option_map member_of (field_number tree is_static r)) (kept _ (field_number tree is_static r) n))
+      then_kept _ (class_number tree r.owner) (field_owner is_static r n) (λ owner. kept _ (option_map field_id (field_number tree is_static r)) (kept _ (field_number tree is_static r) n))
 
-  on_method : (make : ℕ → MemberNumber → Operation) (r : MethodReference) (is_instance : Bool) → is_some (find_method tree is_instance r) ≡ true → is_some (with_owner tree r.owner make (option_map member_of (method_number tree is_instance r))) ≡ true
+  on_method : (make : ℕ → MethodId → Operation) (r : MethodReference) (is_instance : Bool) → is_some (find_method tree is_instance r) ≡ true → is_some (with_owner tree r.owner make (option_map method_id (method_number tree is_instance r))) ≡ true
   on_method make r is_instance h =
       let n = method_there is_instance r h in
-      then_kept _ (class_number tree r.owner) (method_owner is_instance r n) (λ owner. kept _ (option_map member_of (method_number tree is_instance r)) (kept _ (method_number tree is_instance r) n))
+      then_kept _ (class_number tree r.owner) (method_owner is_instance r n) (λ owner. kept _ (option_map method_id (method_number tree is_instance r)) (kept _ (method_number tree is_instance r) n))
 
   module _ (lines : List Line) where
     abbrev is_operation_found : Instruction → Bool
@@ -222,8 +223,8 @@ module _ (tree : Tree) where
     operation_found (Named.Switch labels) t l m s = kept _ (all_some (map (λ label. pc_of label lines) labels)) (all_there (λ label. pc_of label lines) labels l)
     operation_found (Named.LoadField r) t l m s = on_field lines _ r false m
     operation_found (Named.StoreField r) t l m s = on_field lines _ r false m
-    operation_found (Named.LoadStaticField r) t l m s = kept _ (option_map member_of (field_number tree true r)) (kept _ (field_number tree true r) (field_there true r m))
-    operation_found (Named.StoreStaticField r) t l m s = kept _ (option_map member_of (field_number tree true r)) (kept _ (field_number tree true r) (field_there true r m))
+    operation_found (Named.LoadStaticField r) t l m s = kept _ (option_map field_id (field_number tree true r)) (kept _ (field_number tree true r) (field_there true r m))
+    operation_found (Named.StoreStaticField r) t l m s = kept _ (option_map field_id (field_number tree true r)) (kept _ (field_number tree true r) (field_there true r m))
     operation_found (Named.NewArray d) t l m s = kept _ (type_rule tree d) (both_first _ _ t)
     operation_found Named.LoadLength t l m s = refl
     operation_found (Named.LoadElement kind) t l m s = refl
@@ -233,7 +234,7 @@ module _ (tree : Tree) where
     operation_found (Named.Call i r) t l m s = on_method _ r i m
     operation_found (Named.CallVirtual c name signature) t l m s = on_method _ (virtual_reference c name signature) true m
     operation_found (Named.NewObject c ps) t l m s =
-        kept _ (option_map member_of (method_number tree true (constructor_reference c ps))) (kept _ (method_number tree true (constructor_reference c ps)) (method_there true (constructor_reference c ps) m))
+        kept _ (option_map method_id (method_number tree true (constructor_reference c ps))) (kept _ (method_number tree true (constructor_reference c ps)) (method_there true (constructor_reference c ps) m))
     operation_found Named.Return t l m s = refl
 
     operations_found : (ls : List Line) → list_all is_type_found (flat_map types_of_instruction (map (λ (x : Line). x.instruction) ls)) ≡ true → list_all (label_test lines) (map (λ (x : Line). x.instruction) ls) ≡ true →

@@ -14,7 +14,7 @@ use Rattle.cil_model.specs.Declarations.{Declaration, built_ins, source_name, me
 use Rattle.cil_model.specs.Bodies.{is_entry_point, entry_points}
 use Rattle.cil_model.specs.Legality.{IsLegal, is_entry_method}
 use Rattle.cil_model.proofs.Legal.{entry_alone}
-use Rattle.name_tables.specs.declared.lookups.MemberNumber.{MemberNumber}
+use Rattle.name_tables.specs.declared.ids.MethodId.{MethodId}
 use Rattle.name_tables.specs.Numbers.{declarations, source_entry, method_at}
 use Rattle.name_tables.proofs.NumberLaws.{none_is_some, found_at_index, find-append, find-map}
 use Rattle.resolved_code.specs.Contents.{entry_from, IsEntryPoint}
@@ -89,11 +89,11 @@ module _ (tree : Tree) where
       filter-append is_entry (flat_map with_class built_ins) (flat_map with_class (map source_entry tree.classes)) ∙
       ap (filter is_entry) (of_source tree.classes)
 
-  pub entry_found : IsLegal tree → (o : Option MemberNumber) → option_map (λ (m : MemberNumber). (m.class, m.index)) o ≡ entry_from 0 (declarations tree) → IsSome o × IfSome o (IsEntryPoint tree)
+  pub entry_found : IsLegal tree → (o : Option MethodId) → option_map (λ (m : MethodId). (m.class, m.index)) o ≡ entry_from 0 (declarations tree) → IsSome o × IfSome o (IsEntryPoint tree)
   entry_found legal o h =
       let one : (e : ClassName × Method) × (entry_points tree ≡ e ∷ []) × (is_entry_method e.1 ≡ true) = entry_alone tree legal in
       by_number one.0 one.1 o (ap (option_map (method_at tree)) h ∙ first_at (declarations tree) ∙ ap (option_map Some) (only_found is_entry one.0 (flat_map with_class (declarations tree)) (all_entries ∙ one.1)))
     where
-      by_number : (e : ClassName × Method) → entry_points tree ≡ e ∷ [] → (n : Option MemberNumber) → option_map (method_at tree) (option_map (λ (m : MemberNumber). (m.class, m.index)) n) ≡ Some (Some e) → IsSome n × IfSome n (IsEntryPoint tree)
+      by_number : (e : ClassName × Method) → entry_points tree ≡ e ∷ [] → (n : Option MethodId) → option_map (method_at tree) (option_map (λ (m : MethodId). (m.class, m.index)) n) ≡ Some (Some e) → IsSome n × IfSome n (IsEntryPoint tree)
       by_number e is None k = absurd (none_is_some _ k)
       by_number e is (Some number) k = let s : method_at tree (number.class, number.index) ≡ Some e = cc in (refl, is ∙ sym (ap option_to_list s))

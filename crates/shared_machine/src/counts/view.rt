@@ -93,7 +93,7 @@ impl<N: Next> Play<u64, View> for Renewal<N> {
     ghost then = { Renews N.next };
 }
 
-/// The step that changes nothing, and tells that the ticket's count is in the book.
+/// The step that changes nothing, and reports that the ticket's count is in the book.
 pub struct Comparison;
 
 impl Play<u64, View> for Comparison {

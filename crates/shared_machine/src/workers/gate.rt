@@ -5,7 +5,7 @@ pub trait Gate {
     /// The worker of this number begins a pass. `transition` is the number of its passes before, from 0; it stays at 2^32 - 1 once it is there.
     fn pass(&self, worker: u8, transition: u32);
 
-    /// Whether it holds nobody. Then a worker may keep the lock from one pass to the next, and need not tell it of each pass.
+    /// Whether it holds nobody. Then a worker may keep the lock from one pass to the next, and need not report each pass.
     fn is_open(&self) -> bool {
         false
     }

@@ -43,7 +43,7 @@ use Rattle.interpreter.specs.instructions.ObjectTransitions.{beside, object_of, 
 use Rattle.interpreter.specs.declared.outcomes.InstructionOutcome.TheVariants.{OwnEffect}
 use Rattle.interpreter.specs.loaded_program.declared.instructions.LinkedInstruction.TheVariants as Linked
 use Rattle.interpreter.specs.Instructions.{operation_transition, of_objects, answer_of}
-use Rattle.interpreter.proofs.Linking.{link_does}
+use Rattle.interpreter.proofs.LinkedTransitions.{link_does}
 use Rattle.interpreter.specs.loaded_program.Operands.{element_held, array_held}
 use Rattle.simulation.specs.Agreement.{Agree}
 use Rattle.simulation.specs.Refines.{Names, IsValue, native, int32, int64, null_reference, reference, IsWord}

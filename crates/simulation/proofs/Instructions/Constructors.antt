@@ -21,7 +21,7 @@ use Rattle.interpreter.specs.cil_model.Legality.{IsLegal}
 use Rattle.interpreter.specs.reference_machine.BuiltIn.{Action, action_of}
 use Rattle.interpreter.proofs.reference_machine.Programs.BuiltInMembers.{IsMember, acts_as_member}
 use Rattle.interpreter.proofs.reference_machine.Programs.FoundMethods.{IsFound, found}
-use Rattle.interpreter.specs.name_tables.declared.lookups.MemberNumber.{MemberNumber}
+use Rattle.interpreter.specs.name_tables.declared.ids.MethodId.{MethodId}
 use Rattle.interpreter.specs.name_tables.Numbers.{declarations, method_at}
 use Rattle.interpreter.specs.resolved_code.ById.{class_name}
 use Rattle.interpreter.specs.resolved_code.Resolved.{IsMethod}
@@ -59,7 +59,7 @@ own_class tree c k parameters m h = by_found (find (λ (y : Method). same_method
     by_found None e = none_is_some (k, m) e
     by_found (Some x) e = ap (λ (p : ClassName × Method). p.0) (same_Some (c, x) (k, m) e)
 
-module _ (tree : Tree) (legal : IsLegal tree) (c : ClassName) (parameters : List DeclaredType) (number : MemberNumber) (is : IsMethod tree true (constructor_reference c parameters) number) where
+module _ (tree : Tree) (legal : IsLegal tree) (c : ClassName) (parameters : List DeclaredType) (number : MethodId) (is : IsMethod tree true (constructor_reference c parameters) number) where
   abbrev pub constructor : Method
   constructor = is.found
 

@@ -29,7 +29,7 @@ use Rattle.interpreter.specs.threads_monitors.Frames.{Frames, with_stack, with_a
 use Rattle.interpreter.specs.instructions.Frames.{value_pushed, onward, store_in, result_pushed, binary_result, unary_result, shift_result, comparison, branch_test, one_or_zero, is_set, in_32_bits, in_64_bits, branch_if, switch_on, Transition, jump, with_top, when_some, to_pc}
 use Rattle.interpreter.specs.loaded_program.declared.instructions.LinkedInstruction.TheVariants as Linked
 use Rattle.interpreter.specs.Instructions.{of_frames, operation_transition, answer_of}
-use Rattle.interpreter.proofs.Linking.{link_does}
+use Rattle.interpreter.proofs.LinkedTransitions.{link_does}
 use Rattle.simulation.specs.Agreement.{Agree}
 use Rattle.simulation.specs.Refines.{Names, IsValue, int32, int64, null_reference, reference, IsFrame, AreFrames}
 use Rattle.simulation.proofs.ListLaws.AgreeingLists.{agree_set, agree_length}

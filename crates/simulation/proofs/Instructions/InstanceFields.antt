@@ -8,7 +8,7 @@ use Rattle.interpreter.specs.cil_model.declared.reports.Fault.TheVariants.{NullR
 use Rattle.interpreter.specs.cil_model.declared.types.ClassName.{ClassName}
 use Rattle.interpreter.specs.cil_model.Chains.{find_field, is_thread_class}
 use Rattle.interpreter.specs.cil_model.Fields.{FieldKey, same_key}
-use Rattle.interpreter.specs.name_tables.declared.lookups.MemberNumber.{MemberNumber}
+use Rattle.interpreter.specs.name_tables.declared.ids.FieldId.{FieldId}
 use Rattle.interpreter.specs.reference_machine.Values.{ObjectName, Value as StateValue, same_kind}
 use Rattle.interpreter.specs.reference_machine.States.{Contents, Instance as IsInstance, Array as IsArray, HeapObject, Frame as StateFrame, State, entry_at, with_entry, same_kind_or_none, replaced_entry, object_at, with_object, fields_of_contents, with_fields, field_value, with_field}
 use Rattle.interpreter.specs.reference_machine.Effects.{Setting, when_some as state_given, not_null, onward as onward_frame}
@@ -32,7 +32,7 @@ use Rattle.interpreter.specs.cil_model.ValueKinds.{kind_of_type}
 use Rattle.interpreter.specs.instructions.ObjectTransitions.{object_of, load_slot, store_slot, load_field_transition, store_field_transition}
 use Rattle.interpreter.specs.loaded_program.declared.instructions.LinkedInstruction.TheVariants as Linked
 use Rattle.interpreter.specs.Instructions.{operation_transition, of_objects}
-use Rattle.interpreter.proofs.Linking.{link_does}
+use Rattle.interpreter.proofs.LinkedTransitions.{link_does}
 use Rattle.interpreter.specs.loaded_program.Operands.{held_at}
 use Rattle.simulation.specs.Agreement.{Agree}
 use Rattle.simulation.specs.Refines.{Names, IsValue, IsWord, thread_word, IsInstanceCell, IsOfContents, IsCell}
@@ -106,7 +106,7 @@ stored_in s n k v s' is = by_object (object_at s n) refl is
     by_object (Some object) there e = by_contents object there object.contents refl e
 
 module _ (here : Setting) (model : MemoryModel here.tree) (name : Names) (m : Frames) (o : Objects) (statics : List Value) (printed : List ℕ) (s : State) (f : StateFrame) (below : List StateFrame) where
-  module _ (i : Instruction) (operation : Operation) (at : IsSetting here model name m o statics printed s f below i operation) (r : FieldReference) (field : MemberNumber) (is : IsField here.tree false r field) where
+  module _ (i : Instruction) (operation : Operation) (at : IsSetting here model name m o statics printed s f below i operation) (r : FieldReference) (field : FieldId) (is : IsField here.tree false r field) where
     abbrev own_key : FieldKey
     own_key = key_of (is.declared_in, is.found)
 
@@ -200,7 +200,7 @@ module _ (here : Setting) (model : MemoryModel here.tree) (name : Names) (m : Fr
 
   -- ---- ldfld
 
-  module _ (r : FieldReference) (owner : ℕ) (field : MemberNumber) (named : class_name here.tree owner ≡ Some r.owner) (finds : IsField here.tree false r field) (at : IsSetting here model name m o statics printed s f below (Named.LoadField r) (Resolved.LoadField owner field)) where
+  module _ (r : FieldReference) (owner : ℕ) (field : FieldId) (named : class_name here.tree owner ≡ Some r.owner) (finds : IsField here.tree false r field) (at : IsSetting here model name m o statics printed s f below (Named.LoadField r) (Resolved.LoadField owner field)) where
     -- the whole instruction
     pub load_field_alike : DoesAlike here model name m o statics printed s f below (operation_transition here.tree (mutator_in here model) (Resolved.LoadField owner field) m o statics printed) (execute here s f below (Named.LoadField r))
     load_field_alike =
@@ -223,7 +223,7 @@ module _ (here : Setting) (model : MemoryModel here.tree) (name : Names) (m : Fr
 
   -- ---- stfld
 
-  module _ (r : FieldReference) (owner : ℕ) (field : MemberNumber) (named : class_name here.tree owner ≡ Some r.owner) (finds : IsField here.tree false r field) (at : IsSetting here model name m o statics printed s f below (Named.StoreField r) (Resolved.StoreField owner field)) where
+  module _ (r : FieldReference) (owner : ℕ) (field : FieldId) (named : class_name here.tree owner ≡ Some r.owner) (finds : IsField here.tree false r field) (at : IsSetting here model name m o statics printed s f below (Named.StoreField r) (Resolved.StoreField owner field)) where
     -- a store that is done
     store_done : (a : Addr) (n : ObjectName) → name a.number ≡ Some n → (w : Value) (u : StateValue) → IsValue name w u → (s' : State) → IsStored s n (key_of (finds.declared_in, finds.found)) u s' → (rest : List Value) (rest' : List StateValue) → Agree (IsValue name) rest rest' →
         DoesAlike here model name m o statics printed s f below (of_objects o statics printed (store_slot model.phase w (slot here.tree at.running.accepted.legal r field finds) a (with_stack m rest) o)) (onward_frame f below s' rest')

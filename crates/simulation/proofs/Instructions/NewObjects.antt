@@ -16,7 +16,7 @@ use Rattle.interpreter.specs.reference_machine.Effects.{Setting, Effect as State
 use Rattle.interpreter.specs.reference_machine.BuiltIn.{Action, action_of}
 use Rattle.interpreter.specs.reference_machine.Steps.{birth as state_birth, frame_for, is_too_deep, operands, construct, execute}
 use Rattle.interpreter.proofs.reference_machine.TypedStates.RunningFrames.{IsTypedEffect}
-use Rattle.interpreter.specs.name_tables.declared.lookups.MemberNumber.{MemberNumber}
+use Rattle.interpreter.specs.name_tables.declared.ids.MethodId.{MethodId}
 use Rattle.interpreter.specs.resolved_code.Resolved.{IsMethod}
 use Rattle.interpreter.specs.resolved_code.declared.operations.Operation.TheVariants as Resolved
 use Rattle.interpreter.specs.object_memory.declared.addresses.Addr.{Addr}
@@ -34,7 +34,7 @@ use Rattle.interpreter.specs.instructions.ObjectTransitions.{ObjectTransition, b
 use Rattle.interpreter.specs.instructions.Calls.{constructs, is_full, new_object_transition, new_plain_object_transition, Called, following, enter_callee, construct_transition}
 use Rattle.interpreter.specs.declared.outcomes.InstructionOutcome.TheVariants.{OwnEffect}
 use Rattle.interpreter.specs.Instructions.{MachineTransition, operation_transition, Answer, answer_of, of_objects}
-use Rattle.interpreter.proofs.Linking.{new_does}
+use Rattle.interpreter.proofs.LinkedTransitions.{new_does}
 use Rattle.interpreter.specs.Calls.{called_as, make_object}
 use Rattle.simulation.specs.Refines.{Names, reference, hidden_words, IsOfContents, IsValue, IsFrame, AreFrames}
 use Rattle.simulation.proofs.Representation.MoreNames.{values_extend, frame_list_extends, object_extends}
@@ -100,7 +100,7 @@ not_full : (n depth : ℕ) → n + 1 ≤ depth → (n + 1 == depth) ≡ false �
 not_full n depth h k = grind (arith, nat_tests, h, k)
 
 module _ (here : Setting) (model : MemoryModel here.tree) (name : Names) (m : Frames) (o : Objects) (statics : List Value) (printed : List ℕ) (s : State) (f : StateFrame) (below : List StateFrame)
-    (c : ClassName) (parameters : List DeclaredType) (number : MemberNumber) (is : IsMethod here.tree true (constructor_reference c parameters) number)
+    (c : ClassName) (parameters : List DeclaredType) (number : MethodId) (is : IsMethod here.tree true (constructor_reference c parameters) number)
     (at : IsSetting here model name m o statics printed s f below (Named.NewObject c parameters) (Resolved.NewObject number)) where
   abbrev legal_tree : IsLegal here.tree
   legal_tree = at.running.accepted.legal
@@ -280,7 +280,7 @@ not_stuck here true e t = refl
 not_stuck here false e t = elim t [ ]
 
 module _ (here : Setting) (model : MemoryModel here.tree) (name : Names) (m : Frames) (o : Objects) (statics : List Value) (printed : List ℕ) (s : State) (f : StateFrame) (below : List StateFrame)
-    (c : ClassName) (parameters : List DeclaredType) (number : MemberNumber) (is : IsMethod here.tree true (constructor_reference c parameters) number)
+    (c : ClassName) (parameters : List DeclaredType) (number : MethodId) (is : IsMethod here.tree true (constructor_reference c parameters) number)
     (at : IsSetting here model name m o statics printed s f below (Named.NewObject c parameters) (Resolved.NewObject number)) where
   abbrev legal : IsLegal here.tree
   legal = at.running.accepted.legal

@@ -17,7 +17,7 @@ use Rattle.interpreter.specs.cil_model.Chains.{chain_of, fields_declared, find_f
 use Rattle.interpreter.specs.cil_model.Fields.{FieldKey, same_key, static_fields, static_slot}
 use Rattle.interpreter.proofs.cil_model.Lists.{find_passes}
 use Rattle.interpreter.proofs.cil_model.SameLaws.{both_second, same_flag_equal, never}
-use Rattle.interpreter.specs.name_tables.declared.lookups.MemberNumber.{MemberNumber}
+use Rattle.interpreter.specs.name_tables.declared.ids.FieldId.{FieldId}
 use Rattle.interpreter.specs.reference_machine.Values.{Value as StateValue}
 use Rattle.interpreter.specs.reference_machine.States.{Frame as StateFrame, State, entry_at, replaced_entry}
 use Rattle.interpreter.specs.reference_machine.Effects.{Setting, when_some as state_given, onward as onward_frame}
@@ -39,7 +39,7 @@ use Rattle.interpreter.specs.instructions.ObjectTransitions.{load_static_transit
 use Rattle.interpreter.specs.declared.outcomes.InstructionOutcome.TheVariants.{OwnEffect}
 use Rattle.interpreter.specs.loaded_program.declared.instructions.LinkedInstruction.TheVariants as Linked
 use Rattle.interpreter.specs.Instructions.{operation_transition, of_statics, answer_of, of_frames}
-use Rattle.interpreter.proofs.Linking.{link_does}
+use Rattle.interpreter.proofs.LinkedTransitions.{link_does}
 use Rattle.interpreter.specs.loaded_program.Operands.{small, static_in, static_at}
 use Rattle.simulation.specs.Agreement.{Agree}
 use Rattle.simulation.specs.Refines.{Names, IsValue}
@@ -77,7 +77,7 @@ module _ (here : Setting) (model : MemoryModel here.tree) (name : Names) (m : Fr
 
   -- ---- the number of a static field
 
-  module _ (i : Instruction) (operation : Operation) (at : IsSetting here model name m o statics printed s f below i operation) (r : FieldReference) (field : MemberNumber) (is : IsField here.tree true r field) where
+  module _ (i : Instruction) (operation : Operation) (at : IsSetting here model name m o statics printed s f below i operation) (r : FieldReference) (field : FieldId) (is : IsField here.tree true r field) where
     -- its key, and the entry under it
     abbrev key : FieldKey
     key = key_of (is.declared_in, is.found)
@@ -99,7 +99,7 @@ module _ (here : Setting) (model : MemoryModel here.tree) (name : Names) (m : Fr
 
   -- ---- ldsfld
 
-  module _ (r : FieldReference) (field : MemberNumber) (is : IsField here.tree true r field) (at : IsSetting here model name m o statics printed s f below (Named.LoadStaticField r) (Resolved.LoadStaticField field)) where
+  module _ (r : FieldReference) (field : FieldId) (is : IsField here.tree true r field) (at : IsSetting here model name m o statics printed s f below (Named.LoadStaticField r) (Resolved.LoadStaticField field)) where
     -- the transition, by the number of the field
     abbrev loads : ℕ → Transition
     loads n = load_static_transition n m statics
@@ -128,7 +128,7 @@ module _ (here : Setting) (model : MemoryModel here.tree) (name : Names) (m : Fr
 
   -- ---- stsfld
 
-  module _ (r : FieldReference) (field : MemberNumber) (is : IsField here.tree true r field) (at : IsSetting here model name m o statics printed s f below (Named.StoreStaticField r) (Resolved.StoreStaticField field)) where
+  module _ (r : FieldReference) (field : FieldId) (is : IsField here.tree true r field) (at : IsSetting here model name m o statics printed s f below (Named.StoreStaticField r) (Resolved.StoreStaticField field)) where
     -- the transition, by the number of the field
     abbrev stores : ℕ → Value → Frames → StaticTransition
     stores n v k = if nat_lt n (length statics) && is_static_storable model.phase o v then beside_statics (stored_static model.phase o statics n v) (onward k) else None

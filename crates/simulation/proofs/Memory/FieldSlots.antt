@@ -16,7 +16,7 @@ use Rattle.interpreter.specs.cil_model.Legality.{IsLegal}
 use Rattle.interpreter.proofs.cil_model.Lists.{none_is_some}
 use Rattle.interpreter.proofs.cil_model.CompleteLaws.{test_is_complete}
 use Rattle.interpreter.specs.name_tables.Numbers.{declarations, field_at}
-use Rattle.interpreter.specs.name_tables.declared.lookups.MemberNumber.{MemberNumber}
+use Rattle.interpreter.specs.name_tables.declared.ids.FieldId.{FieldId}
 use Rattle.interpreter.specs.reference_machine.Values.{Born, Value as StateValue}
 use Rattle.interpreter.specs.reference_machine.States.{Free, Instance, HeapObject, State, entry_at, with_entry, class_of_contents}
 use Rattle.interpreter.specs.reference_machine.Steps.{key_of}
@@ -59,7 +59,7 @@ class_of_field tree n p d g is = by_entry (slice_get (declarations tree) n) is
     by_entry None e = none_is_some (d, g) e
     by_entry (Some y) e = ap Some (by_field y.0 (slice_get y.1.fields p) e)
 
-module _ (tree : Tree) (legal : IsLegal tree) (r : FieldReference) (field : MemberNumber) (is : IsField tree false r field) where
+module _ (tree : Tree) (legal : IsLegal tree) (r : FieldReference) (field : FieldId) (is : IsField tree false r field) where
   abbrev pub key : FieldKey
   key = key_of (is.declared_in, is.found)
 

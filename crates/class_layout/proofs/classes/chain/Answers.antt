@@ -16,13 +16,13 @@ further bases (suc k) n h =
 pub returns-in_default : goal.returns-in_default
 returns-in_default c =
     let bases = map (λ r. r.base) c.args.classes.now in
-    sym (append-nil c.loop-left.numbers.items) ∙ ap (λ ns. c.loop-left.numbers.items ++ ns) (sym (ap (chain_by bases c.loop-left.left) c.in_default.is ∙ ended bases c.loop-left.left)) ∙ c.loop-left.invariant
+    sym (append-nil c.loop-left.chain.items) ∙ ap (λ ns. c.loop-left.chain.items ++ ns) (sym (ap (chain_by bases c.loop-left.left) c.in_default.is ∙ ended bases c.loop-left.left)) ∙ c.loop-left.invariant
 
 pub loop-left-preserved : goal.loop-left-preserved
 loop-left-preserved c =
     let bases = map (λ r. r.base) c.args.classes.now in
-    let n = c.in-Some.number in
-    let before = c.loop-left.numbers.items in
+    let n = c.in-Some.here in
+    let before = c.loop-left.chain.items in
     let rest : chain_by bases c.loop-left.left c.loop-left.next ≡ n ∷ chain_by bases (c.loop-left.left - 1) (base_at bases n) = ap (chain_by bases c.loop-left.left) c.in-Some.is ∙ further bases c.loop-left.left n (omega arith) in
     ap (λ ns. ns ++ chain_by bases (c.loop-left.left - 1) c.base_at-next.result) c.in_ok-push.ensures.items ∙ append_assoc before (n ∷ []) (chain_by bases (c.loop-left.left - 1) c.base_at-next.result) ∙
     ap (λ b. before ++ (n ∷ chain_by bases (c.loop-left.left - 1) b)) c.base_at-next.ensures ∙ ap (λ ns. before ++ ns) (sym rest) ∙ c.loop-left.invariant
@@ -31,4 +31,4 @@ pub returns : goal.returns
 returns c =
     let bases = map (λ r. r.base) c.args.classes.now in
     let none : c.loop-left.left ≡ 0 = omega arith in
-    sym (append-nil c.loop-left.numbers.items) ∙ ap (λ k. c.loop-left.numbers.items ++ chain_by bases k c.loop-left.next) (sym none) ∙ c.loop-left.invariant
+    sym (append-nil c.loop-left.chain.items) ∙ ap (λ k. c.loop-left.chain.items ++ chain_by bases k c.loop-left.next) (sym none) ∙ c.loop-left.invariant

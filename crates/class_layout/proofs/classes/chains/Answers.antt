@@ -17,7 +17,7 @@ loop-class-preserved c = λ tree legal are counted.
     let bases = map (λ r. r.base) rs in
     let many : length (declarations tree) ≡ length rs = alike_length (IsClass tree) (declarations tree) rs are in
     let each : (e : ClassName × Declaration) → slice_get (declarations tree) i ≡ Some e → c.in_ok-chain.field-0.items ≡ chain_numbers tree e.0 =
-    λ e there. c.in_ok-chain.ensures ∙ ap (λ k. chain_by bases k (Some i)) counted ∙ ap (chain_by bases (longest_chain tree)) (sym (number_of_index tree legal i e there)) ∙ chain_alike tree bases (bases_alike tree legal rs are) (longest_chain tree) (Some e.0) in
+    λ e there. (rw c.new.ensures at c.in_ok-chain.ensures) ∙ ap (λ k. chain_by bases k (Some i)) counted ∙ ap (chain_by bases (longest_chain tree)) (sym (number_of_index tree legal i e there)) ∙ chain_alike tree bases (bases_alike tree legal rs are) (longest_chain tree) (Some e.0) in
     class_pushed tree (chain_numbers tree) i (map (λ chain. chain.items) c.loop-class.chains.items) (map (λ chain. chain.items) c.push.new.self.items) c.in_ok-chain.field-0.items (omega arith) (c.loop-class.invariant tree legal are counted) each
     (ap (map (λ chain. chain.items)) c.in_ok-push.ensures.items ∙ map-append (λ chain. chain.items) c.loop-class.chains.items (c.in_ok-chain.field-0 ∷ []))
 

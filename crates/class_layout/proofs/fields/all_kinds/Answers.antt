@@ -16,7 +16,7 @@ loop-class-preserved c =
     let t = c.args.classes.now.program.now in
     let each : (e : ClassName × Declaration) → slice_get (declarations t) c.loop-class.class ≡ Some e → c.in_ok-chain_kinds.field-0.items ≡ slot_kinds t e.0 =
     λ e there. c.in_ok-chain_kinds.ensures ∙ ap (λ (table : List (List SlotKind)). chain_kinds table c.chain.result.now) c.requires ∙
-    ap (chain_kinds (by_class t (own_kinds t))) (c.chain.ensures ∙ ap (λ o. option_map_or (λ (x : ClassName × Declaration). chain_numbers t x.0) o []) there) ∙ kinds_along t e.0 in
+    ap (chain_kinds (by_class t (own_kinds t))) (c.chain.ensures ∙ ap (λ o. option_map_or (λ (x : ClassName × Declaration). chain_numbers t x.0) o []) (ap (slice_get (declarations t)) c.new.ensures ∙ there)) ∙ kinds_along t e.0 in
     class_pushed t (slot_kinds t) c.loop-class.class (map (λ row. row.items) c.loop-class.rows.items) (map (λ row. row.items) c.push.new.self.items) c.in_ok-chain_kinds.field-0.items (omega arith) c.loop-class.invariant each
     (ap (map (λ row. row.items)) c.in_ok-push.ensures.items ∙ map-append (λ row. row.items) c.loop-class.rows.items (c.in_ok-chain_kinds.field-0 ∷ []))
 

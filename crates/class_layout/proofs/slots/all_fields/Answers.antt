@@ -37,7 +37,7 @@ field_row-requires-clause-slots c =
     let fields = c.as_slice-fields.result.now in
     let are : AreFieldsOf t i fields =
     fields_of t s.legal s.all.now c.requires.resolved i r fields (slice_get_read s.all.now (length s.all.now) i r refl (omega arith) c.index-all-class.is) (c.as_slice-fields.ensures ∙ sym (ap (λ (x : ResolvedClass). x.fields) c.index-all-class.is)) in
-    slots_fit t i fields are _ c.first_slot.result c.requires.own c.first_slot.ensures.fits
+    slots_fit t i fields are _ c.first_slot.result c.requires.own (rw c.new.ensures at c.first_slot.ensures.fits)
 
 pub statics_after-next-requires : goal.statics_after-next-requires
 statics_after-next-requires c =
@@ -62,7 +62,7 @@ loop-class-preserved c =
     let are : AreFieldsOf t i fields =
     fields_of t s.legal s.all.now c.requires.resolved i r fields (slice_get_read s.all.now (length s.all.now) i r refl (omega arith) c.index-all-class.is) (c.as_slice-fields.ensures ∙ sym (ap (λ (x : ResolvedClass). x.fields) c.index-all-class.is)) in
     let name : ClassName = are.entry.0 in
-    let slot : c.first_slot.result ≡ first_slot t name = c.first_slot.ensures.following ∙ slot_alike t _ _ i are.entry c.requires.kinds c.requires.own are.there in
+    let slot : c.first_slot.result ≡ first_slot t name = (rw c.new.ensures at c.first_slot.ensures.following) ∙ slot_alike t _ _ i are.entry c.requires.kinds c.requires.own are.there in
     let row : c.in_ok-field_row.field-0.items ≡ fields_by_id next (first_slot t name) (fields_declared t name) =
     c.in_ok-field_row.ensures ∙ ap (λ n. static_by_id next n (map (λ (f : ResolvedField). f.is_static) fields)) slot ∙ ap (static_by_id next (first_slot t name)) are.flags ∙ by_id_alike next (first_slot t name) (fields_declared t name) in
     let after : c.statics_after-next.result ≡ statics_after next (fields_declared t name) = c.statics_after-next.ensures ∙ statics_alike_at t i fields are next in

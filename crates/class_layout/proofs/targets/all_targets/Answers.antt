@@ -25,8 +25,8 @@ loop-class-preserved c =
     λ e there.
     let Members : List ResolvedMethod → Type 0 = λ ms. AllAlike (IsResolvedMethod t) e.1.methods ms in
     let is : IsClass t e r = class_alike t s.all.now c.requires i e r there read in
-    let members : Members c.as_slice.result.now = subst Members (ap (λ (x : ResolvedClass). x.methods) c.index-all-class.is ∙ sym c.as_slice.ensures) is.methods in
-    c.in_ok-rows_of.ensures e there members ∙ ap (λ o. map (target_row t e.0) (listed_by (λ (d : Declaration). d.methods) o)) (sym (declared_at t s.legal i e there)) in
+    let members : Members c.as_slice-methods.result.now = subst Members (ap (λ (x : ResolvedClass). x.methods) c.index-all-class.is ∙ sym c.as_slice-methods.ensures) is.methods in
+    c.in_ok-rows_of.ensures e (ap (slice_get (declarations t)) c.new.ensures ∙ there) members ∙ ap (λ o. map (target_row t e.0) (listed_by (λ (d : Declaration). d.methods) o)) (sym (declared_at t s.legal i e there)) in
     class_pushed t (target_rows t) i (map (λ row. map targets_of row.items) c.loop-class.rows.items) (map (λ row. map targets_of row.items) c.push.new.self.items) (map targets_of c.in_ok-rows_of.field-0.items) (omega arith) c.loop-class.invariant each
     (ap (map (λ row. map targets_of row.items)) c.in_ok-push.ensures.items ∙ map-append (λ row. map targets_of row.items) c.loop-class.rows.items (c.in_ok-rows_of.field-0 ∷ []))
 

@@ -1,7 +1,7 @@
 use Rattle.std.proofs.Common.{◌≡◌, ◌++◌, length, sym, ap, ◌∙◌}
 use Rattle.std.specs.Prelude.{string_bytes}
 use Rattle.event_trace.proofs.Names.{count_below, numbers_below}
-use Rattle.event_trace.proofs.Counting.{line_is_added, word, word_of_all, word_of_some}
+use Rattle.event_trace.proofs.ThreadSets.{line_is_added, word, word_of_all, word_of_some}
 use Rattle.event_trace.proofs.explanations.add_deadlock.Goals.{then-count-live+in_ok-push_str, else-count-live+in_ok-push_str-2}
 use Rattle.event_trace.proofs.explanations.add_deadlock.Goals as goal
 

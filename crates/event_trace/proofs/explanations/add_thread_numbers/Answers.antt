@@ -1,7 +1,7 @@
 use Rattle.std.proofs.Common.{◌≡◌, ◌≤◌, true, false, sym, ap, subst, ◌∙◌, arith}
 use Rattle.std.specs.Prelude.{string_bytes}
 use Rattle.event_trace.proofs.Names.{unwrap_or-slice_get, is_in}
-use Rattle.event_trace.proofs.Counting.{count_small, count_with, count_without, numbers_with, numbers_without}
+use Rattle.event_trace.proofs.ThreadSets.{count_small, count_with, count_without, numbers_with, numbers_without}
 use Rattle.event_trace.proofs.explanations.add_thread_numbers.Goals.{then-set-thread+in_ok-add_number, else-set-thread}
 use Rattle.event_trace.proofs.explanations.add_thread_numbers.Goals as goal
 

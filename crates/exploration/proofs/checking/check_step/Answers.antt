@@ -1,6 +1,6 @@
 use Rattle.std.proofs.Common.{◌≤◌, ℕ, refl, sym, ◌∙◌, subst}
 use Rattle.exploration.proofs.Names.{same_Some, MOST_THREADS}
-use Rattle.exploration.proofs.Covering.{alike_lagging, lagging_more}
+use Rattle.exploration.proofs.LagTransitivity.{alike_lagging, lagging_more}
 use Rattle.exploration.proofs.checking.check_step.Goals as goal
 
 pub returns : goal.returns

@@ -1,6 +1,6 @@
 use Rattle.std.proofs.Common.{Some, length, refl, sym, ap, ◌∙◌, subst}
 use Rattle.exploration.proofs.Names.{slice_get_read, MachineState, IsLagging}
-use Rattle.exploration.proofs.Covering.{alike_lagging, lagging_more}
+use Rattle.exploration.proofs.LagTransitivity.{alike_lagging, lagging_more}
 use Rattle.exploration.proofs.Paths.{events_there}
 use Rattle.exploration.proofs.checking.covers_start.Goals as goal
 

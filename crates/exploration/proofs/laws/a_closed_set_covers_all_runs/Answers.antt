@@ -1,5 +1,5 @@
 use Rattle.exploration.proofs.Names.{IsLedTo}
-use Rattle.exploration.proofs.Running.{opened_runs_are_seen}
+use Rattle.exploration.proofs.CoveredRuns.{opened_runs_are_seen}
 use Rattle.exploration.proofs.laws.a_closed_set_covers_all_runs.Goals as goal
 
 pub returns : goal.returns

@@ -1,4 +1,4 @@
-use Rattle.exploration.proofs.Stepping.{stays_lagging}
+use Rattle.exploration.proofs.LaggingSteps.{stays_lagging}
 use Rattle.exploration.proofs.laws.a_lagging_machine_stays_lagging.Goals as goal
 
 pub returns : goal.returns

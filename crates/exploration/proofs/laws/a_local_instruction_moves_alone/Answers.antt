@@ -1,4 +1,4 @@
-use Rattle.exploration.proofs.Local.{step_moves}
+use Rattle.exploration.proofs.LocalProgress.{step_moves}
 use Rattle.exploration.proofs.laws.a_local_instruction_moves_alone.Goals as goal
 
 pub returns : goal.returns

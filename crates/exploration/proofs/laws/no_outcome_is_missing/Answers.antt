@@ -1,6 +1,6 @@
 use Rattle.exploration.proofs.Names.{IsLedTo}
-use Rattle.exploration.proofs.Running.{opened_runs_are_seen}
-use Rattle.exploration.proofs.Showing.{outcome_listed}
+use Rattle.exploration.proofs.CoveredRuns.{opened_runs_are_seen}
+use Rattle.exploration.proofs.CoveredStates.{outcome_listed}
 use Rattle.exploration.proofs.laws.no_outcome_is_missing.Goals as goal
 
 pub returns : goal.returns

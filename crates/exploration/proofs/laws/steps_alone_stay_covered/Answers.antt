@@ -1,5 +1,5 @@
 use Rattle.exploration.proofs.Names.{one_operation, IsLedTo}
-use Rattle.exploration.proofs.Running.{steps_are_covered}
+use Rattle.exploration.proofs.CoveredRuns.{steps_are_covered}
 use Rattle.exploration.proofs.laws.steps_alone_stay_covered.Goals as goal
 
 pub returns : goal.returns

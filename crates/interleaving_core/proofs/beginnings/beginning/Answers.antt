@@ -10,7 +10,7 @@ use Rattle.threads_monitors.specs.Frames.{new_frame}
 use Rattle.threads_monitors.specs.declared.threads.ThreadStatus.TheVariants.{Live}
 use Rattle.threads_monitors.specs.declared.threads.Thread.{Thread}
 use Rattle.simulation.specs.MachineStates.{frame_room}
-use Rattle.simulation.proofs.interpreter.Running.{there_is}
+use Rattle.simulation.proofs.interpreter.MethodsToRun.{there_is}
 use Rattle.interleaving_core.proofs.Threads.DeclaredMethods.{locals_fit}
 use Rattle.interleaving_core.proofs.beginnings.beginning.Goals as goal
 

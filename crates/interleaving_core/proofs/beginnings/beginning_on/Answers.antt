@@ -6,18 +6,18 @@ use Rattle.simulation.specs.loaded_program.AllMethods.{all_methods}
 use Rattle.interleaving_core.proofs.InitialContents.InitialMachineState.{begun, target_of_run, thread_for_chosen}
 use Rattle.interleaving_core.proofs.beginnings.beginning_on.Goals as goal
 
-pub class_number-class-requires : goal.class_number-class-requires
-class_number-class-requires c = ap is_some (begun c.args.program.now c.args.limits c.args.heap.now c.args.object c.requires.there).class_is
+pub class_id-class-requires : goal.class_id-class-requires
+class_id-class-requires c = ap is_some (begun c.args.program.now c.args.limits c.args.heap.now c.args.object c.requires.there).class_is
 
 pub target-method-requires : goal.target-method-requires
 target-method-requires c =
     let run = begun c.args.program.now c.args.limits c.args.heap.now c.args.object c.requires.there in
-    ap is_some (target_of_run c.args.program.now c.args.heap.now c.args.object run c.class_number-class.result c.class_number-class.ensures c.number.result (c.number.ensures run.named run.named_is))
+    ap is_some (target_of_run c.args.program.now c.args.heap.now c.args.object run c.class_id-class.result c.class_id-class.ensures c.number.result (c.number.ensures run.named run.named_is))
 
 pub beginning-requires-clause-there : goal.beginning-requires-clause-there
 beginning-requires-clause-there c =
     let run = begun c.args.program.now c.args.limits c.args.heap.now c.args.object c.requires.there in
-    ap is_some (c.target-method.ensures ∙ target_of_run c.args.program.now c.args.heap.now c.args.object run c.class_number-class.result c.class_number-class.ensures c.number.result (c.number.ensures run.named run.named_is))
+    ap is_some (c.target-method.ensures ∙ target_of_run c.args.program.now c.args.heap.now c.args.object run c.class_id-class.result c.class_id-class.ensures c.number.result (c.number.ensures run.named run.named_is))
 
 pub returns-clause-begins : goal.returns-clause-begins
 returns-clause-begins c =
@@ -25,5 +25,5 @@ returns-clause-begins c =
     let legal : IsLegal tree = subst IsLegal c.program.ensures c.tree-legal.ensures.legal in
     let run = begun tree c.args.limits c.args.heap.now c.args.object c.requires.there in
     let there : slice_get (all_methods tree) c.target-method.result ≡ Some run.run =
-    c.target-method.ensures ∙ target_of_run tree c.args.heap.now c.args.object run c.class_number-class.result c.class_number-class.ensures c.number.result (c.number.ensures run.named run.named_is) in
+    c.target-method.ensures ∙ target_of_run tree c.args.heap.now c.args.object run c.class_id-class.result c.class_id-class.ensures c.number.result (c.number.ensures run.named run.named_is) in
     thread_for_chosen tree legal c.args.limits c.args.heap.now c.args.object run.run c.target-method.result run.chosen_is there ∙ ap Some (sym (c.beginning.ensures.begins run.run there (Ref c.args.object ∷ [])))

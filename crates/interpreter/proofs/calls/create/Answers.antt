@@ -5,7 +5,7 @@ use Rattle.loaded_program.specs.AllMethods.{all_methods}
 use Rattle.loaded_program.specs.Prepared.{action_named}
 use Rattle.loaded_program.specs.Loaded.{IsLoadedMethod}
 use Rattle.instructions.specs.Calls.{new_object_transition}
-use Rattle.interpreter.proofs.Running.{there_is, given_there, called_alike, made_plain, made_called}
+use Rattle.interpreter.proofs.MethodsToRun.{there_is, given_there, called_alike, made_plain, made_called}
 use Rattle.interpreter.proofs.calls.create.Goals as goal
 
 pub method-loaded-requires : goal.method-loaded-requires

@@ -7,7 +7,7 @@ use Rattle.loaded_program.specs.Loaded.{IsLoadedMethod}
 use Rattle.instructions.specs.Calls.{call_transition}
 use Rattle.instructions.specs.ObjectTransitions.{beside}
 use Rattle.interpreter.specs.Calls.{beside_console, called_as, prints, call_answer}
-use Rattle.interpreter.proofs.Running.{there_is, given_there, called_alike, run_acts, run_calls, call_there}
+use Rattle.interpreter.proofs.MethodsToRun.{there_is, given_there, called_alike, run_acts, run_calls, call_there}
 use Rattle.interpreter.proofs.calls.run.Goals as goal
 
 pub method-loaded-requires : goal.method-loaded-requires

@@ -3,8 +3,8 @@ use Rattle.std.specs.Prelude.{IsSome}
 use Rattle.std.proofs.lemmas.Result.{IfOk-weaker, on_err_weaker}
 use Rattle.loaded_program.specs.Loaded.{line_in}
 use Rattle.interpreter.specs.Instructions.{is_printing}
-use Rattle.interpreter.proofs.Executing.{linked_here, resolved, is_at, is_small, does_the_same, has_answer}
-use Rattle.interpreter.proofs.Printing.{instruction_prints}
+use Rattle.interpreter.proofs.LinkedExecution.{linked_here, resolved, is_at, is_small, does_the_same, has_answer}
+use Rattle.interpreter.proofs.PrintedResults.{instruction_prints}
 use Rattle.interpreter.proofs.fetch.instruction.Goals as goal
 
 pub instruction-instruction-requires : goal.instruction-instruction-requires

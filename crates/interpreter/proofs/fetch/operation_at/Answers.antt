@@ -7,7 +7,7 @@ use Rattle.loaded_program.specs.AllMethods.{all_methods}
 use Rattle.loaded_program.specs.Loaded.{IsLoadedMethod}
 use Rattle.loaded_program.proofs.OperandLaws.{map_some}
 use Rattle.interpreter.specs.Instructions.{IsAt}
-use Rattle.interpreter.proofs.Placing.{Lined, lined, Placed, placed, method_is_there, method_is_resolved}
+use Rattle.interpreter.proofs.ResolvedInstructions.{Lined, lined, Placed, placed, method_is_there, method_is_resolved}
 use Rattle.interpreter.proofs.fetch.operation_at.Goals as goal
 
 pub method-requires-2 : goal.method-requires-2

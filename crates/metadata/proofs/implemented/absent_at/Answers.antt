@@ -12,8 +12,8 @@ use Rattle.metadata.proofs.implemented.absent_at.Goals as goal
 pub returns-in-Ok : goal.returns-in-Ok
 returns-in-Ok c =
     let t = c.args.methods.now.names.now.classes.tree.now in
-    let line = line_of t (Some c.in-Some.number) in
+    let line = line_of t (Some c.in-Some.first) in
     let found : Method → Bool = λ m. is_some (nearest_number (virtual_index t (identity_of m)) line) in
-    let declared : Method → Bool = λ m. list_any (is_virtual_found t (identity_of m)) (line_of t c.args.class) in
+    let declared : Method → Bool = λ m. list_any (is_virtual_found t (identity_of m)) (line_of t c.args.class.now) in
     c.in-Ok.ensures.found ∙
     list_all_congr found declared (λ m. virtual_on_line t (identity_of m) line ∙ ap (λ o. list_any (is_virtual_found t (identity_of m)) (line_of t o)) (sym c.in-Some.is)) (methods_at t c.args.interface)

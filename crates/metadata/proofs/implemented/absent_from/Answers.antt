@@ -6,4 +6,4 @@ pub returns-in-Some : goal.returns-in-Some
 returns-in-Some c =
     let t = c.args.methods.now.names.now.classes.tree.now in
     let reported = c.is_reported.ensures c.if-is_reported.true in
-    sym (ap (λ o. has_all t o c.args.interface) c.in-Some.is ∙ c.requires c.args.interface reported.0 reported.1 c.in-Some.number reported.2)
+    sym (ap (λ o. has_all t o c.args.interface) c.in-Some.is ∙ c.requires c.args.interface reported.0 reported.1 c.in-Some.first reported.2)

@@ -14,13 +14,13 @@ use Rattle.metadata.proofs.implemented.absent_in.Goals as goal
 pub returns-in-None : goal.returns-in-None
 returns-in-None c =
     let t = c.args.methods.now.names.now.classes.tree.now in
-    let all : List Method → Bool = list_all (λ (m : Method). list_any (is_virtual_found t (identity_of m)) (line_of t c.args.class)) in
+    let all : List Method → Bool = list_all (λ (m : Method). list_any (is_virtual_found t (identity_of m)) (line_of t c.args.class.now)) in
     let none : class_number t c.args.interface.now ≡ None = sym (c.number.ensures ∙ ap (class_number t) c.of.ensures) ∙ c.in-None.is in
     sym (ap (λ (o : Option Declaration). all (listed_by (λ d. d.methods) o)) (not_declared t c.args.interface.now none))
 
 pub returns-in-Some : goal.returns-in-Some
 returns-in-Some c =
     let t = c.args.methods.now.names.now.classes.tree.now in
-    let all : List Method → Bool = list_all (λ (m : Method). list_any (is_virtual_found t (identity_of m)) (line_of t c.args.class)) in
-    let known : class_number t c.args.interface.now ≡ Some c.in-Some.number = sym (c.number.ensures ∙ ap (class_number t) c.of.ensures) ∙ c.in-Some.is in
-    c.absent_from.ensures ∙ sym (ap all (methods_of_number t c.args.interface.now c.in-Some.number known))
+    let all : List Method → Bool = list_all (λ (m : Method). list_any (is_virtual_found t (identity_of m)) (line_of t c.args.class.now)) in
+    let known : class_number t c.args.interface.now ≡ Some c.in-Some.interface = sym (c.number.ensures ∙ ap (class_number t) c.of.ensures) ∙ c.in-Some.is in
+    c.absent_from.ensures ∙ sym (ap all (methods_of_number t c.args.interface.now c.in-Some.interface known))

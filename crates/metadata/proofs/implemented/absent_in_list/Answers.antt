@@ -14,7 +14,7 @@ use Rattle.metadata.proofs.implemented.absent_in_list.Goals as goal
 pub loop-interface-preserved : goal.loop-interface-preserved
 loop-interface-preserved c =
     let t = c.args.methods.now.names.now.classes.tree.now in
-    all_after (λ (i : ClassName). list_all (λ (m : Method). list_any (is_virtual_found t (identity_of m)) (line_of t c.args.class)) (methods_declared t i)) c.args.interfaces.now c.loop-interface.interface c.index-interfaces-interface.result (omega arith) c.index-interfaces-interface.is
+    all_after (λ (i : ClassName). list_all (λ (m : Method). list_any (is_virtual_found t (identity_of m)) (line_of t c.args.class.now)) (methods_declared t i)) c.args.interfaces.now c.loop-interface.interface c.index-interfaces-interface.result (omega arith) c.index-interfaces-interface.is
     (sym c.absent_in.ensures ∙ ap is_none c.in_default.is) ∙ c.loop-interface.invariant
 
 pub loop-interface-init : goal.loop-interface-init
@@ -23,10 +23,10 @@ loop-interface-init c = refl
 pub returns-in-Some : goal.returns-in-Some
 returns-in-Some c =
     let t = c.args.methods.now.names.now.classes.tree.now in
-    sym (all_fail (λ (i : ClassName). list_all (λ (m : Method). list_any (is_virtual_found t (identity_of m)) (line_of t c.args.class)) (methods_declared t i)) c.args.interfaces.now c.loop-interface.interface c.index-interfaces-interface.result (omega arith) c.index-interfaces-interface.is
+    sym (all_fail (λ (i : ClassName). list_all (λ (m : Method). list_any (is_virtual_found t (identity_of m)) (line_of t c.args.class.now)) (methods_declared t i)) c.args.interfaces.now c.loop-interface.interface c.index-interfaces-interface.result (omega arith) c.index-interfaces-interface.is
     (sym c.absent_in.ensures ∙ ap is_none c.in-Some.is)) ∙ c.loop-interface.invariant
 
 pub returns : goal.returns
 returns c =
     let t = c.args.methods.now.names.now.classes.tree.now in
-    sym (at_drop_all (list_all (λ (i : ClassName). list_all (λ (m : Method). list_any (is_virtual_found t (identity_of m)) (line_of t c.args.class)) (methods_declared t i))) c.args.interfaces.now c.loop-interface.interface (omega arith)) ∙ c.loop-interface.invariant
+    sym (at_drop_all (list_all (λ (i : ClassName). list_all (λ (m : Method). list_any (is_virtual_found t (identity_of m)) (line_of t c.args.class.now)) (methods_declared t i))) c.args.interfaces.now c.loop-interface.interface (omega arith)) ∙ c.loop-interface.invariant

@@ -20,6 +20,6 @@ returns c =
     let base = chain_within t (longest_chain t) at in
     let v : is_virtual m.kind ≡ true = sym c.is_virtual.ensures ∙ c.if-not-is_virtual.false in
     let s : is_new_slot_method m.kind ≡ false = sym c.is_new_slot_method.ensures ∙ c.if-is_new_slot_method.false in
-    let line : line_of t c.base_number.result ≡ filter_map (class_number t) base = ap (line_of t) c.base_number.ensures ∙ line_is_chain t (longest_chain t) at in
-    let rule = c.plain_base.ensures ∙ ap (λ k. concrete_by_id t k (line_of t c.base_number.result)) c.new-key.ensures ∙ ap (concrete_by_id t (identity_of m)) line ∙ sym (nearest_plain t (identity_of m) base) in
+    let line : line_of t c.base_id.result ≡ filter_map (class_number t) base = ap (line_of t) c.base_id.ensures ∙ line_is_chain t (longest_chain t) at in
+    let rule = c.plain_base.ensures ∙ ap (λ k. concrete_by_id t k (line_of t c.base_id.result)) c.new-key.ensures ∙ ap (concrete_by_id t (identity_of m)) line ∙ sym (nearest_plain t (identity_of m) base) in
     rule ∙ sym (third_decides (is_virtual m.kind) (is_new_slot_method m.kind) (is_found_not_virtual (nearest (method_declared t m.name m.signature) base)) v s)

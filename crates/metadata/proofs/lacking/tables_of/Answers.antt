@@ -26,5 +26,5 @@ loop-interface-preserved c =
     let is_table : ℕ → Vec Bool Global → Type 0 = λ i v. IsTable t i v.items in
     record {
       width = ap length c.in_ok-push.ensures.items ∙ length-append tables (one ∷ []) ∙ ap (λ n. n + 1) inv.width;
-      tables = λ i table e. one_more is_table tables one inv.tables (subst (λ n. is_table n one) (sym inv.width) c.in_ok-table_of.ensures) i table (sym (ap (λ (xs : List (Vec Bool Global)). slice_get xs i) c.in_ok-push.ensures.items) ∙ e);
+      tables = λ i table e. one_more is_table tables one inv.tables (subst (λ n. is_table n one) (c.new.ensures ∙ sym inv.width) c.in_ok-table_of.ensures) i table (sym (ap (λ (xs : List (Vec Bool Global)). slice_get xs i) c.in_ok-push.ensures.items) ∙ e);
     }

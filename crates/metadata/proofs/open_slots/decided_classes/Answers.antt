@@ -18,8 +18,8 @@ loop-class-preserved c =
     let here : c.is_neither.result ≡ true → P c.loop-class.class = λ e k.
     let line = line_of t (Some c.loop-class.class) in
     let rows : map (λ v. v.items) c.as_slice.result.now ≡ marks_in t = ap (map (λ v. v.items)) c.as_slice.ensures.value ∙ c.in_ok-marks.ensures in
-    let stay : slice_get c.in_ok-may_stay.may_stay.items c.loop-class.class ≡ Some false = ap (λ xs. slice_get xs c.loop-class.class) (sym c.as_slice-in-loop-class.ensures.value) ∙ c.is_neither.ensures.first e in
-    let hide : slice_get c.in_ok-may_hide.may_hide.items c.loop-class.class ≡ Some false = ap (λ xs. slice_get xs c.loop-class.class) (sym c.as_slice-in-loop-class-2.ensures.value) ∙ c.is_neither.ensures.second e in
+    let stay : slice_get c.in_ok-may_stay.may_stay.items c.loop-class.class ≡ Some false = ap (λ xs. slice_get xs c.loop-class.class) (sym c.as_slice-in-loop-class.ensures.value) ∙ (rw c.new.ensures at c.is_neither.ensures.first e) in
+    let hide : slice_get c.in_ok-may_hide.may_hide.items c.loop-class.class ≡ Some false = ap (λ xs. slice_get xs c.loop-class.class) (sym c.as_slice-in-loop-class-2.ensures.value) ∙ (rw c.new.ensures at c.is_neither.ensures.second e) in
     let top : top_open t k line ≡ false = top_tested t k line ∙ sym (marked t k (λ (m : Method). is_abstract_method m.kind) line) ∙ sym (ap (λ (marks : List (List Bool)). is_marked marks (nearest_number (method_index t k) line)) rows) ∙ c.in_ok-may_stay.ensures.unmarked c.loop-class.class k stay in
     or_from _ _ (c.in_ok-may_hide.ensures c.loop-class.class k hide) top in
     let more = yes_more P c.loop-class.decided.items c.is_neither.result c.loop-class.invariant.1 (λ e. subst P (sym c.loop-class.invariant.0) (here e)) in (

@@ -16,4 +16,4 @@ stays_clear-requires c = subst (λ (xs : List Bool). AreClear c.args.methods.now
 pub loop-index-preserved : goal.loop-index-preserved
 loop-index-preserved c = λ class k e.
     let t = c.args.methods.now.names.now.classes.tree.now in
-    no_set (λ n. hidden_open t k (line_of t (Some n)) ≡ false) c.loop-index.may_hide.items c.index-class.result.now (λ n h. c.loop-index.invariant n k h) (c.stays_clear.ensures c.if-not-stays_clear.false k) class e
+    no_set (λ n. hidden_open t k (line_of t (Some n)) ≡ false) c.loop-index.may_hide.items c.index-class.result.now (λ n h. c.loop-index.invariant n k h) (rw c.new.ensures at c.stays_clear.ensures c.if-not-stays_clear.false k) class e

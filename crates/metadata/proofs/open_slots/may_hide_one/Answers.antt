@@ -12,7 +12,7 @@ use Rattle.metadata.proofs.open_slots.may_hide_one.Goals.{then-not-is_override+e
 pub loop-method-preserved : goal.loop-method-preserved
 loop-method-preserved c =
     let t = c.args.methods.now.names.now.classes.tree.now in
-    let ns : List ℕ = line_of t c.args.base in
+    let ns : List ℕ = line_of t c.args.base.now in
     let m : Method = c.method-item.result.now in
     let hides : hides_one t ns m ≡ false = elim c.if-not-is_override.branch [
       | then-not-is_override+else-may_be_top w ↦ ap (λ b. not (is_override m) && b) (sym (ap (λ k. top_open t k ns) w.new-key.ensures) ∙ w.may_be_top.ensures w.if-may_be_top.false) ∙ and_false _

@@ -3,7 +3,7 @@ use Rattle.interleaving_core.specs.Histories.{DoesMore}
 use Rattle.interleaving_core.specs.simulation.Runs.{FollowsReference}
 use Rattle.shared_machine.specs.Worlds.{IsPrintedWithin}
 use Rattle.shared_machine.proofs.Bounds.{same_within}
-use Rattle.shared_machine.proofs.Answering.{did_is, nothing_did, related_at}
+use Rattle.shared_machine.proofs.KnownAnswers.{did_is, nothing_did, related_at}
 use Rattle.shared_machine.proofs.Histories.{sound_more, history_is}
 use Rattle.shared_machine.proofs.Lendings.{world_at}
 use Rattle.shared_machine.proofs.world.perform.Goals as goal

@@ -14,7 +14,7 @@ use Rattle.interpreter.specs.reference_machine.Effects.{Setting, Effect as State
 use Rattle.interpreter.specs.reference_machine.Steps.{run_method, operands, execute, run_virtual}
 use Rattle.interpreter.proofs.reference_machine.Programs.FoundMethods.{IsFound, found}
 use Rattle.interpreter.proofs.reference_machine.TypedStates.RunningFrames.{IsTypedEffect}
-use Rattle.interpreter.specs.name_tables.declared.lookups.MemberNumber.{MemberNumber}
+use Rattle.interpreter.specs.name_tables.declared.ids.MethodId.{MethodId}
 use Rattle.interpreter.specs.resolved_code.ById.{class_name}
 use Rattle.interpreter.specs.resolved_code.Resolved.{IsMethod}
 use Rattle.interpreter.specs.resolved_code.declared.operations.Operation.TheVariants as Resolved
@@ -23,7 +23,7 @@ use Rattle.interpreter.specs.object_memory.Objects.{Objects}
 use Rattle.interpreter.specs.threads_monitors.Frames.{Frames}
 use Rattle.interpreter.specs.Calls.{run_transition, CallTransition, chosen_method, receiver, receiver_in, call_answer, run_on}
 use Rattle.interpreter.specs.Instructions.{MachineTransition, of_calls, operation_transition, answer_of}
-use Rattle.interpreter.proofs.Linking.{call_does, virtual_does}
+use Rattle.interpreter.proofs.LinkedTransitions.{call_does, virtual_does}
 use Rattle.simulation.specs.Refines.{Names, IsValue, null_reference, reference}
 use Rattle.simulation.proofs.Instructions.Correspondence.{IsSetting, DoesAlike}
 use Rattle.simulation.proofs.Instructions.StackOperands.{fine}
@@ -90,7 +90,7 @@ module _ (here : Setting) (s : State) (f : StateFrame) (below : List StateFrame)
 -- ---- calls
 
 module _ (here : Setting) (model : MemoryModel here.tree) (name : Names) (m : Frames) (o : Objects) (statics : List Value) (printed : List ℕ) (s : State) (f : StateFrame) (below : List StateFrame) where
-  pub call_alike : (is_instance : Bool) (r : MethodReference) (owner : ℕ) (method : MemberNumber) → class_name here.tree owner ≡ Some r.owner → IsMethod here.tree is_instance r method →
+  pub call_alike : (is_instance : Bool) (r : MethodReference) (owner : ℕ) (method : MethodId) → class_name here.tree owner ≡ Some r.owner → IsMethod here.tree is_instance r method →
       IsSetting here model name m o statics printed s f below (Named.Call is_instance r) (Resolved.Call is_instance owner method) →
       DoesAlike here model name m o statics printed s f below (operation_transition here.tree (mutator_in here model) (Resolved.Call is_instance owner method) m o statics printed) (execute here s f below (Named.Call is_instance r))
   call_alike is_instance r owner method named finds at =
@@ -228,7 +228,7 @@ module _ (methods_run_alike : MethodsRunAlike) where
     abbrev Typed : StateEffect → Type 0
     Typed e = IsTypedEffect here.tree e
 
-    module _ (c : ClassName) (label : List ℕ) (signature : Signature) (owner : ℕ) (method : MemberNumber) (finds : IsMethod here.tree true (virtual_reference c label signature) method)
+    module _ (c : ClassName) (label : List ℕ) (signature : Signature) (owner : ℕ) (method : MethodId) (finds : IsMethod here.tree true (virtual_reference c label signature) method)
         (at : IsSetting here model name m o statics printed s f below (Named.CallVirtual c label signature) (Resolved.CallVirtual owner method)) where
       abbrev own : ClassName × Method
       own = (finds.declared_in, finds.found)
@@ -311,7 +311,7 @@ module _ (methods_run_alike : MethodsRunAlike) where
           (operands_alike (subst (λ x. Typed (given_there x (λ y. operands here s f below types (run_virtual here s f below y)))) finds.finds (fine here model name m o statics printed s f below (Named.CallVirtual c label signature) (Resolved.CallVirtual owner method) at)))
 
     -- callvirt (III.4.2)
-    pub call_virtual_alike : (c : ClassName) (label : List ℕ) (signature : Signature) (owner : ℕ) (method : MemberNumber) → class_name here.tree owner ≡ Some c → IsMethod here.tree true (virtual_reference c label signature) method →
+    pub call_virtual_alike : (c : ClassName) (label : List ℕ) (signature : Signature) (owner : ℕ) (method : MethodId) → class_name here.tree owner ≡ Some c → IsMethod here.tree true (virtual_reference c label signature) method →
         IsSetting here model name m o statics printed s f below (Named.CallVirtual c label signature) (Resolved.CallVirtual owner method) →
         DoesAlike here model name m o statics printed s f below (operation_transition here.tree (mutator_in here model) (Resolved.CallVirtual owner method) m o statics printed) (execute here s f below (Named.CallVirtual c label signature))
     call_virtual_alike c label signature owner method named finds at =

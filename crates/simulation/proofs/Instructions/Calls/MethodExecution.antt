@@ -48,7 +48,7 @@ use Rattle.interpreter.specs.cil_model.declared.types.DeclaredType.{DeclaredType
 use Rattle.interpreter.specs.resolved_code.declared.operations.Operation.TheVariants as Resolved
 use Rattle.interpreter.specs.object_memory.declared.addresses.Addr.{Addr}
 use Rattle.interpreter.specs.object_memory.declared.values.Value.TheVariants.{Ref}
-use Rattle.interpreter.proofs.Linking.{return_does}
+use Rattle.interpreter.proofs.LinkedTransitions.{return_does}
 use Rattle.simulation.specs.Agreement.{Agree}
 use Rattle.simulation.proofs.Instructions.StackOperands.{fine, one_operand}
 

@@ -1,6 +1,6 @@
 use Rattle.std.proofs.Common.{◌≡◌, ◌<◌, length, get_or, refl}
 use Rattle.std.proofs.lemmas.Option.{slice_get_read}
-use Rattle.verifier.proofs.MemberNumbers.{class_added}
+use Rattle.verifier.proofs.MethodIds.{class_added}
 use Rattle.verifier.proofs.members.source_members.Goals as goal
 
 pub loop-index-preserved : goal.loop-index-preserved

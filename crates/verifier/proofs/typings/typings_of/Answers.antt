@@ -2,7 +2,7 @@ use Rattle.std.proofs.Common.{◌≡◌, List, map, Some, sym, subst, ◌∙◌}
 use Rattle.cil_model.specs.Bodies.{source_methods}
 use Rattle.cil_model.specs.Legality.{IsLegal}
 use Rattle.cil_model.specs.declared.trees.Tree.{Tree}
-use Rattle.name_tables.specs.declared.lookups.MemberNumber.{MemberNumber}
+use Rattle.name_tables.specs.declared.ids.MethodId.{MethodId}
 use Rattle.resolved_code.specs.Resolved.{AreResolved}
 use Rattle.verifier.specs.Members.{methods_at}
 use Rattle.verifier.proofs.typings.typings_of.Goals as goal
@@ -19,5 +19,5 @@ typings_by-requires c = c.in_ok-types.ensures ∙ c.tree-2.ensures.whole
 pub returns : goal.returns
 returns c =
     let here : methods_at c.tree.result.now c.as_slice.result.now ≡ map Some (source_methods c.tree.result.now) =
-    subst (λ (members : List MemberNumber). methods_at c.tree.result.now members ≡ map Some (source_methods c.tree.result.now)) (sym c.as_slice.ensures.value) c.in_ok-members.ensures in
+    subst (λ (members : List MethodId). methods_at c.tree.result.now members ≡ map Some (source_methods c.tree.result.now)) (sym c.as_slice.ensures.value) c.in_ok-members.ensures in
     c.typings_by.ensures (subst (λ (tree : Tree). methods_at tree c.as_slice.result.now ≡ map Some (source_methods tree)) c.tree.ensures.whole here)

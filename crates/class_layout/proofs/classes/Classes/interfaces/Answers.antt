@@ -4,12 +4,14 @@ use Rattle.resolved_code.specs.declared.classes.ResolvedClass.{ResolvedClass}
 use Rattle.class_layout.proofs.classes.Classes.interfaces.Goals as goal
 
 pub returns-in-None : goal.returns-in-None
-returns-in-None c =
+returns-in-None c = rw (← c.number.ensures) (
     let all = c.args.self.now.all.now in
-    sym (ap (λ (o : Option (List ℕ)). unwrap_or o []) (slice_get-map (λ (r : ResolvedClass). r.interfaces) all c.args.class ∙ ap (option_map (λ (r : ResolvedClass). r.interfaces)) (slice_get_past all c.args.class c.in-None.ensures.lookup.3)))
+    sym (ap (λ (o : Option (List ℕ)). unwrap_or o []) (slice_get-map (λ (r : ResolvedClass). r.interfaces) all c.number.result ∙ ap (option_map (λ (r : ResolvedClass). r.interfaces)) (slice_get_past all c.number.result c.in-None.ensures.lookup.3)))
+    )
 
 pub returns-in-Some : goal.returns-in-Some
-returns-in-Some c =
+returns-in-Some c = rw (← c.number.ensures) (
     let all = c.args.self.now.all.now in
-    let there : slice_get all c.args.class ≡ Some c.in-Some.resolved.now = slice_get_read all (length all) c.args.class c.in-Some.resolved.now refl c.in-Some.ensures.lookup.3.0 c.in-Some.ensures.lookup.1 in
-    c.as_slice.ensures ∙ sym (ap (λ (o : Option (List ℕ)). unwrap_or o []) (slice_get-map (λ (r : ResolvedClass). r.interfaces) all c.args.class ∙ ap (option_map (λ (r : ResolvedClass). r.interfaces)) there))
+    let there : slice_get all c.number.result ≡ Some c.in-Some.resolved.now = slice_get_read all (length all) c.number.result c.in-Some.resolved.now refl c.in-Some.ensures.lookup.3.0 c.in-Some.ensures.lookup.1 in
+    c.as_slice.ensures ∙ sym (ap (λ (o : Option (List ℕ)). unwrap_or o []) (slice_get-map (λ (r : ResolvedClass). r.interfaces) all c.number.result ∙ ap (option_map (λ (r : ResolvedClass). r.interfaces)) there))
+    )

@@ -1,7 +1,7 @@
 use Rattle.std.proofs.Common.{◌≡◌, ◌-◌, ◌+◌, ◌==◌, ℕ, Bool, false, Option, ◌∷◌, drop, get_or, refl, sym, arith, ap, ◌∙◌}
 use Rattle.std.specs.Option.{option_map_or}
 use Rattle.std.proofs.Math.Seq.{drop-length}
-use Rattle.std.proofs.lemmas.List.{drop_more}
+use Rattle.std.proofs.lemmas.List.{drop_more, get_or_default}
 use Rattle.class_layout.specs.Roles.{slot_from, slot_along, implementation_from, implementation_along}
 use Rattle.class_layout.proofs.method_families.MethodFamilies.implementation_along.Goals as goal
 
@@ -18,10 +18,12 @@ loop-index-preserved c =
     let following = drop c.loop-index.index chain in
     let next : index + 1 ≡ c.loop-index.index = omega (arith, c.loop-index-test.true) in
     let opened : drop index chain ≡ class ∷ following = drop_more chain index 0 (omega (arith, c.loop-index-test.true, c.loop-index.auto)) ∙ ap (λ k. class ∷ drop k chain) next in
-    let slot_is = c.slot_over-slot.ensures ∙ ap (slot_from all s.identity class) c.loop-index.invariant.0 in
+    let same : c.index-chain-index.result ≡ class = c.index-chain-index.is ∙ get_or_default chain index c.index-chain-index.result 0 (omega (arith, c.loop-index-test.true, c.loop-index.auto)) in
+    let again : c.index-chain-index-in-loop-index.result ≡ class = c.index-chain-index-in-loop-index.is ∙ get_or_default chain index c.index-chain-index-in-loop-index.result 0 (omega (arith, c.loop-index-test.true, c.loop-index.auto)) in
+    let slot_is = c.slot_over-slot.ensures ∙ ap (λ n. slot_from all s.identity n c.loop-index.slot) same ∙ ap (slot_from all s.identity class) c.loop-index.invariant.0 in
     let fills_is = c.is_slot.ensures ∙ ap (λ (slot : Option ℕ). option_map_or (λ n. n == c.args.required) slot false) slot_is in (
       slot_is ∙ ap (slot_along all s.identity) (sym opened),
-      c.implementation_over-implementation.ensures ∙ ap (λ (fills : Bool). implementation_from all s.identity class fills c.loop-index.implementation) fills_is ∙
+      c.implementation_over-implementation.ensures ∙ ap (λ n. implementation_from all s.identity n c.is_slot.result c.loop-index.implementation) again ∙ ap (λ (fills : Bool). implementation_from all s.identity class fills c.loop-index.implementation) fills_is ∙
           ap (implementation_from all s.identity class (option_map_or (λ n. n == c.args.required) (slot_along all s.identity (class ∷ following)) false)) c.loop-index.invariant.1 ∙
           ap (implementation_along all s.identity c.args.required) (sym opened),
     )

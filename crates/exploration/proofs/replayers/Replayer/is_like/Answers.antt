@@ -1,5 +1,5 @@
 use Rattle.std.proofs.Common.{sym, ◌∙◌}
-use Rattle.exploration.proofs.Begins.{begins_program}
+use Rattle.exploration.proofs.SamePrograms.{begins_program}
 use Rattle.exploration.proofs.replayers.Replayer.is_like.Goals as goal
 
 pub is_like-requires-clause-program : goal.is_like-requires-clause-program

@@ -1,6 +1,6 @@
 use Rattle.std.proofs.Common.{List, drop, length, subst}
 use Rattle.exploration.proofs.Names.{Report, MachineState, AreTransitions}
-use Rattle.exploration.proofs.Begins.{begins_first, on_ok, reopened_begins}
+use Rattle.exploration.proofs.SamePrograms.{begins_first, on_ok, reopened_begins}
 use Rattle.exploration.proofs.replayers.Replayer.replay.Goals as goal
 
 pub returns : goal.returns

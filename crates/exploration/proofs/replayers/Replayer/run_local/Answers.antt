@@ -1,9 +1,9 @@
 use Rattle.std.proofs.Common.{subst, sym}
 use Rattle.interleaving_core.specs.simulation.cil_model.Legality.{IsLegal}
 use Rattle.exploration.proofs.Names.{MachineState, one_operation, IsLagging}
-use Rattle.exploration.proofs.Begins.{begins_program, begins_still}
-use Rattle.exploration.proofs.Covering.{lagging_itself}
-use Rattle.exploration.proofs.Going.{still_at_origin, taken_back}
+use Rattle.exploration.proofs.SamePrograms.{begins_program, begins_still}
+use Rattle.exploration.proofs.LagTransitivity.{lagging_itself}
+use Rattle.exploration.proofs.LentFrameProgress.{still_at_origin, taken_back}
 use Rattle.exploration.proofs.replayers.Replayer.run_local.Goals as goal
 
 pub take_back-requires-clause-tree : goal.take_back-requires-clause-tree

@@ -1,4 +1,4 @@
-use Rattle.exploration.proofs.Begins.{begins_still}
+use Rattle.exploration.proofs.SamePrograms.{begins_still}
 use Rattle.exploration.proofs.replayers.Replayer.step.Goals as goal
 
 pub invariant_of-self : goal.invariant_of-self

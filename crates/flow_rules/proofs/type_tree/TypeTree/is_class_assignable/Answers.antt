@@ -28,13 +28,14 @@ returns-in-None c =
     (sym c.is_or_lists.ensures ∙ c.if-is_or_lists.false) c.in-None.is c.loop-step.invariant.rest
 
 pub loop-step-preserved : goal.loop-step-preserved
-loop-step-preserved c =
+loop-step-preserved c = rw c.number-here.ensures (
     let below : c.loop-step.step < longest_chain c.args.self.now = omega (arith, c.loop-step-test.true, c.longest_chain-step-end.ensures) in
     record {
       rest = found_later c.args.self.now c.class.ensures.legal (longest_chain c.args.self.now) c.loop-step.step c.loop-step.here c.in-Some-base.base c.args.to c.in-Some.class.now (is_class_assignable c.args.self.now (class_named c.args.self.now c.args.from) (class_named c.args.self.now c.args.to)) below c.in-Some.ensures.found c.requires.to
           (sym c.is_or_lists.ensures ∙ c.if-is_or_lists.false) c.in-Some-base.is c.loop-step.invariant.rest;
       known = based_known c.args.self.now c.class.ensures.legal c.loop-step.here c.in-Some-base.base c.in-Some.class.now c.in-Some.ensures.found c.in-Some-base.is;
     }
+    )
 
 pub returns : goal.returns
 returns c =

@@ -19,5 +19,4 @@ returns c found at is =
       has_value = value;
       action = c.action_at.ensures tree found.0 found.1 at;
       code = linked_lines tree found c.args.method.now.kind c.in_ok-linked_code.field-0.items is.kind lines;
-      targets = c.in_ok-method_targets.ensures found at is.kind;
     }

@@ -13,5 +13,5 @@ returns c =
     let s = c.args.self.now in
     let t = s.classes.tree.now in
     let forest = s.calls.inheritance.forest in
-    c.member_number.ensures ∙ c.find.ensures ∙ ap (λ (k : CallNumber). nearest_from forest (number_in same_call s.calls.keys k) forest.most (Some c.args.class)) c.call_number.ensures ∙
+    c.method_id.ensures ∙ c.find.ensures ∙ ap (λ (k : CallNumber). nearest_from forest (number_in same_call s.calls.keys k) forest.most (Some c.args.class)) c.call_number.ensures ∙
     nearest_on_line t forest (call_number s.methods.keys s.calls.keys) (call_index t) s.calls_are (called_of_key c.args.key) c.args.class

@@ -6,7 +6,8 @@ use Rattle.name_tables.proofs.MemberLaws.{of_tree}
 use Rattle.name_tables.proofs.lookups.NameTables.ends.Goals as goal
 
 pub returns : goal.returns
-returns c =
+returns c = rw (← c.number.ensures) (
     let t = c.args.self.now.classes.tree.now in
     let fields = c.args.self.now.fields in
-    of_tree t fields.inheritance.forest (field_key_number fields.keys) (field_index t) c.args.self.now.fields_are (λ bases most. IsTrue c.ends.result ↔ Ends bases most c.args.class) c.ends.ensures
+    of_tree t fields.inheritance.forest (field_key_number fields.keys) (field_index t) c.args.self.now.fields_are (λ bases most. IsTrue c.ends.result ↔ Ends bases most c.number.result) c.ends.ensures
+    )

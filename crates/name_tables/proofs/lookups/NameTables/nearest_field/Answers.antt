@@ -16,5 +16,5 @@ pub returns : goal.returns
 returns c =
     let t = c.args.self.now.classes.tree.now in
     let e : class_number t (class_of_key c.args.owner) ≡ Some c.in-Some.class = sym c.number.ensures ∙ c.in-Some.is in
-    c.member_number.ensures ∙ c.find.ensures ∙
+    c.field_id.ensures ∙ c.find.ensures ∙
     nearest_in_table t c.args.self.now.fields.inheritance.forest (field_key_number c.args.self.now.fields.keys) (field_index t) c.args.self.now.fields_are c.args.key (class_of_key c.args.owner) c.in-Some.class e

@@ -19,9 +19,9 @@ returns-in-Ok-clause-found c =
     let all = c.args.self.now.overridable in
     let forest = all.inheritance.forest in
     let methods = c.args.self.now.names.now.methods in
-    let found = c.member_number.ensures ∙ c.in-Ok.ensures.found ∙ ap (λ n. nearest_from forest (number_in (λ (a b : ℕ). a == b) all.keys n) forest.most (Some c.args.class)) (c.number_of.ensures ∙ number_of_view method_of_key same_identity methods.keys c.args.key) ∙
+    let found = c.method_id.ensures ∙ c.in-Ok.ensures.found ∙ ap (λ n. nearest_from forest (number_in (λ (a b : ℕ). a == b) all.keys n) forest.most (Some c.args.class)) (c.number_of.ensures ∙ number_of_view method_of_key same_identity methods.keys c.args.key) ∙
     nearest_on_line t forest (virtual_number methods.keys all.keys) (virtual_index t) c.args.self.now.overridable_are (method_of_key c.args.key) c.args.class in
-    c.is_some.ensures ∙ sym (is_some-map (λ m. (m.class, m.index)) c.member_number.result) ∙ ap is_some found
+    c.is_some.ensures ∙ sym (is_some-map (λ m. (m.class, m.index)) c.method_id.result) ∙ ap is_some found
 
 pub returns-in-Ok-clause-ended : goal.returns-in-Ok-clause-ended
 returns-in-Ok-clause-ended c =

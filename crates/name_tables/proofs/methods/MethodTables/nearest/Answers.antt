@@ -13,7 +13,7 @@ returns-in-Ok-clause-found c =
     let t = c.args.self.now.names.now.classes.tree.now in
     let all = c.args.self.now.names.now.methods in
     let forest = all.inheritance.forest in
-    c.member_number.ensures ∙ c.in-Ok.ensures.found ∙ ap (λ n. nearest_from forest n forest.most (Some c.args.class)) (number_of_view method_of_key same_identity all.keys c.args.key) ∙
+    c.method_id.ensures ∙ c.in-Ok.ensures.found ∙ ap (λ n. nearest_from forest n forest.most (Some c.args.class)) (number_of_view method_of_key same_identity all.keys c.args.key) ∙
     nearest_on_line t forest (identity_number all.keys) (method_index t) c.args.self.now.names.now.methods_are.table (method_of_key c.args.key) c.args.class
 
 pub returns-in-Ok-clause-ended : goal.returns-in-Ok-clause-ended

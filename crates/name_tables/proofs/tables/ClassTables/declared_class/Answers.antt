@@ -13,4 +13,4 @@ returns-in-None c = sym (declared_at_none c.args.self.now.tree.now (class_of_key
 pub returns-in-Some : goal.returns-in-Some
 returns-in-Some c =
     sym (option_map_of_map (λ d. entry_of d.now) (λ (e : ClassName × Declaration). e.1) c.class.result) ∙
-    ap (option_map (λ (e : ClassName × Declaration). e.1)) c.class.ensures ∙ declared_at_number c.args.self.now.tree.now (class_of_key c.args.name) c.in-Some.number (sym c.in-Some.ensures)
+    ap (option_map (λ (e : ClassName × Declaration). e.1)) c.class.ensures ∙ declared_at_number c.args.self.now.tree.now (class_of_key c.args.name) c.in-Some.class (sym c.in-Some.ensures)

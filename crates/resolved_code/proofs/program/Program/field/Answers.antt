@@ -9,5 +9,5 @@ use Rattle.resolved_code.proofs.program.Program.field.Goals as goal
 pub returns : goal.returns
 returns c =
     let t = c.args.self.now in
-    subst (IsFieldOf t c.args.number) (sym c.field_at.ensures)
-    (members_alike t (λ (d : Declaration). d.fields) (λ (r : ResolvedClass). r.fields) (IsResolvedField t) (λ (d : Declaration) (r : ResolvedClass) (h : IsResolvedClass t d r). h.fields) c.classes.result.now c.classes.ensures c.args.number.class c.args.number.index)
+    subst (IsFieldOf t c.args.field) (sym c.field_at.ensures)
+    (members_alike t (λ (d : Declaration). d.fields) (λ (r : ResolvedClass). r.fields) (IsResolvedField t) (λ (d : Declaration) (r : ResolvedClass) (h : IsResolvedClass t d r). h.fields) c.classes.result.now c.classes.ensures c.args.field.class c.args.field.index)

@@ -9,5 +9,5 @@ use Rattle.resolved_code.proofs.program.Program.method.Goals as goal
 pub returns : goal.returns
 returns c =
     let t = c.args.self.now in
-    subst (IsMethodOf t c.args.number) (sym c.method_at.ensures)
-    (members_alike t (λ (d : Declaration). d.methods) (λ (r : ResolvedClass). r.methods) (IsResolvedMethod t) (λ (d : Declaration) (r : ResolvedClass) (h : IsResolvedClass t d r). h.methods) c.classes.result.now c.classes.ensures c.args.number.class c.args.number.index)
+    subst (IsMethodOf t c.args.method) (sym c.method_at.ensures)
+    (members_alike t (λ (d : Declaration). d.methods) (λ (r : ResolvedClass). r.methods) (IsResolvedMethod t) (λ (d : Declaration) (r : ResolvedClass) (h : IsResolvedClass t d r). h.methods) c.classes.result.now c.classes.ensures c.args.method.class c.args.method.index)

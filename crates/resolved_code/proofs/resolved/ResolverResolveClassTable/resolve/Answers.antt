@@ -14,7 +14,7 @@ returns-in_err-resolve_all-2 c =
     let e = c.in_err-resolve_all-2.field-0.0 in
     let fields = all_some_seen (λ f. f.now) (resolved_field_rule t) _ _ c.as_slice.ensures.value in
     passed_on c.from_residual-in_err-resolve_all-2.result e _ c.from_residual-in_err-resolve_all-2.ensures.1
-    (fields_fail t d c.in_ok-base_number.field-0 c.in_ok-resolve_all.field-0 e c.in_ok-base_number.ensures c.in_ok-resolve_all.ensures (subst (Fails e) fields c.in_err-resolve_all-2.ensures))
+    (fields_fail t d c.in_ok-base_id.field-0 c.in_ok-resolve_all.field-0 e c.in_ok-base_id.ensures c.in_ok-resolve_all.ensures (subst (Fails e) fields c.in_err-resolve_all-2.ensures))
 
 pub returns-in_err-resolve_all-3 : goal.returns-in_err-resolve_all-3
 returns-in_err-resolve_all-3 c =
@@ -24,7 +24,7 @@ returns-in_err-resolve_all-3 c =
     let fields = all_some_seen (λ f. f.now) (resolved_field_rule t) _ _ c.as_slice.ensures.value in
     let methods = all_some_seen (λ m. m.now) (resolved_method_rule t) _ _ c.as_slice-2.ensures.value in
     passed_on c.from_residual-in_err-resolve_all-3.result e _ c.from_residual-in_err-resolve_all-3.ensures.1
-    (methods_fail t d c.in_ok-base_number.field-0 c.in_ok-resolve_all.field-0 c.in_ok-resolve_all-2.field-0 e c.in_ok-base_number.ensures c.in_ok-resolve_all.ensures (sym fields ∙ c.in_ok-resolve_all-2.ensures) (subst (Fails e) methods c.in_err-resolve_all-3.ensures))
+    (methods_fail t d c.in_ok-base_id.field-0 c.in_ok-resolve_all.field-0 c.in_ok-resolve_all-2.field-0 e c.in_ok-base_id.ensures c.in_ok-resolve_all.ensures (sym fields ∙ c.in_ok-resolve_all-2.ensures) (subst (Fails e) methods c.in_err-resolve_all-3.ensures))
 
 pub returns : goal.returns
 returns c =
@@ -32,4 +32,4 @@ returns c =
     let d = declaration_in c.args.table.now.class in
     let fields = all_some_seen (λ f. f.now) (resolved_field_rule t) _ _ c.as_slice.ensures.value in
     let methods = all_some_seen (λ m. m.now) (resolved_method_rule t) _ _ c.as_slice-2.ensures.value in
-    class_made t d c.in_ok-base_number.field-0 c.in_ok-resolve_all.field-0 c.in_ok-resolve_all-2.field-0 c.in_ok-resolve_all-3.field-0 c.in_ok-base_number.ensures c.in_ok-resolve_all.ensures (sym fields ∙ c.in_ok-resolve_all-2.ensures) (sym methods ∙ c.in_ok-resolve_all-3.ensures)
+    class_made t d c.in_ok-base_id.field-0 c.in_ok-resolve_all.field-0 c.in_ok-resolve_all-2.field-0 c.in_ok-resolve_all-3.field-0 c.in_ok-base_id.ensures c.in_ok-resolve_all.ensures (sym fields ∙ c.in_ok-resolve_all-2.ensures) (sym methods ∙ c.in_ok-resolve_all-3.ensures)

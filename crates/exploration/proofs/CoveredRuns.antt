@@ -14,10 +14,10 @@ use Rattle.interleaving_core.proofs.simulation.reference_machine.Runs.JoinedRuns
 use Rattle.interleaving_core.proofs.simulation.RetainedWords.BornWords.{AreWithin, IsWithinBirths, acknowledgement_granted, acknowledgement_within, collection_granted, collection_within, exceeds_one_space, opened_within, step_within}
 use Rattle.interleaving_core.proofs.simulation.Runs.RunsWithoutCollection.{HasWhole, beyond_own, opened_whole, whole_stepped}
 use Rattle.exploration.proofs.Names.{same_Some, AreSteps, AreTransitions, IsRunOf, RefusesBeyondRoom, none_is_some, Event, Step, Ack, Gc, Limits, Budget, Report, Absent, Ran, HasEnded, Tree, RunsTo, is_refusal, initial_state, run, step_reports, thread_part, State, Answers, step, is_live_at, MachineState, IsTransition, machine_state_at, initial_machine_state, same_program, one_transition, acknowledgement_keeps, collection_keeps, each_alike, step_is_refused, IsLagging, AreOrdinary, IsClosed, IsCovered, IsSeen, KeepBudgets, LeadsInto}
-use Rattle.exploration.proofs.Covering.{covered_more, one_covers}
+use Rattle.exploration.proofs.LagTransitivity.{covered_more, one_covers}
 use Rattle.exploration.proofs.Paths.{IsOneOperation}
-use Rattle.exploration.proofs.Settling.{live_alike}
-use Rattle.exploration.proofs.Stepping.{absent_transition, stays_lagging}
+use Rattle.exploration.proofs.ChargedSteps.{live_alike}
+use Rattle.exploration.proofs.LaggingSteps.{absent_transition, stays_lagging}
 
 pub same_answer : (r q : Report) (s t : State) → Answers r s ≡ Answers q t → (r ≡ q) × (s ≡ t)
 same_answer r q s t e = (cc, cc)

@@ -4,7 +4,7 @@ use Rattle.cil_model.specs.declared.trees.Class.{Class}
 use Rattle.cil_model.specs.Declarations.{source_name, method_members}
 use Rattle.name_tables.specs.Numbers.{declarations, source_entry}
 use Rattle.verifier.specs.Members.{methods_at, own_methods}
-use Rattle.verifier.proofs.members.add_numbers.Given as goal
+use Rattle.verifier.proofs.members.add_ids.Given as goal
 
 -- the methods of the numbers so far, and then those that are left
 abbrev pub invariant-loop-index : goal.invariant-loop-index

@@ -9,7 +9,7 @@ use Rattle.cil_model.specs.declared.trees.Line.{Line}
 use Rattle.cil_model.specs.declared.trees.Method.{Method}
 use Rattle.cil_model.specs.Bodies.{code_of, lines_of}
 use Rattle.cil_model.proofs.Lists.{none_is_some}
-use Rattle.name_tables.specs.declared.lookups.MemberNumber.{MemberNumber}
+use Rattle.name_tables.specs.declared.ids.MethodId.{MethodId}
 use Rattle.name_tables.specs.Numbers.{method_at}
 use Rattle.resolved_code.specs.Resolved.{IsOperation, IsBody, IsResolvedMethod, BothAlike}
 use Rattle.resolved_code.specs.declared.classes.Body.{Body}
@@ -28,7 +28,7 @@ alike_some R (Some x) None a alike e = elim alike [ ]
 alike_some R None y a alike e = none_is_some a e
 
 -- the resolved method of a number that a method has
-module _ (tree t : Tree) (same : t ≡ tree) (n : MemberNumber) (found : ClassName × Method) (there : method_at tree (n.class, n.index) ≡ Some found) (result : Option (Bor ResolvedMethod)) where
+module _ (tree t : Tree) (same : t ≡ tree) (n : MethodId) (found : ClassName × Method) (there : method_at tree (n.class, n.index) ≡ Some found) (result : Option (Bor ResolvedMethod)) where
   abbrev resolves : ClassName × Method → ResolvedMethod → Type 0
   resolves named method = IsResolvedMethod tree named.1 method
 

@@ -3,7 +3,7 @@ use Rattle.cil_model.specs.Declarations.{source_name}
 use Rattle.name_tables.specs.Numbers.{class_number}
 use Rattle.name_tables.proofs.MemberLaws.{base_in_numbers}
 use Rattle.metadata.proofs.CycleLaws.{base_has_id, base_unknown}
-use Rattle.metadata.proofs.kinds.base_number.Goals as goal
+use Rattle.metadata.proofs.kinds.base_id.Goals as goal
 
 pub returns-in-None : goal.returns-in-None
 returns-in-None c =

@@ -4,10 +4,10 @@ use Rattle.interleaving_core.specs.simulation.Lending.{RunsFrame, with_live}
 use Rattle.interleaving_core.proofs.simulation.Threads.LocalInstructions.{local_transitions}
 use Rattle.interleaving_core.specs.Loans.{Begins, IsAtOrigin, IsLent, Lent, RanLocally}
 use Rattle.exploration.proofs.Names.{same_Some, Step, Ran, Tree, AreLocalSteps, frames_over, Frame, Thread, Agree, MachineState, frame_room, AreTransitions, live_thread, IsLagging, IsThreadLagging}
-use Rattle.exploration.proofs.Covering.{threads_itself}
-use Rattle.exploration.proofs.Local.{steps_further}
+use Rattle.exploration.proofs.LagTransitivity.{threads_itself}
+use Rattle.exploration.proofs.LocalProgress.{steps_further}
 use Rattle.exploration.proofs.Paths.{IsOneOperation, led_once}
-use Rattle.exploration.proofs.Settling.{thread_itself}
+use Rattle.exploration.proofs.ChargedSteps.{thread_itself}
 
 -- one thread of a list is further
 further_at : (tree : Tree) (xs : List Thread) (t : ℕ) (x y : Thread) → slice_get xs t ≡ Some x → IsThreadLagging tree x y → Agree (IsThreadLagging tree) xs (slice_set xs t y)

@@ -4,7 +4,7 @@ use Rattle.std.specs.Prelude.{OnErr, OnOk}
 use Rattle.interleaving_core.specs.simulation.cil_model.declared.memory.NoMemory.{NoMemory}
 use Rattle.exploration.proofs.Names.{same_Some, Limits, Tree, MachineState, initial_machine_state}
 use Rattle.exploration.specs.Begins.{Begins}
-use Rattle.exploration.proofs.Running.{opened_of}
+use Rattle.exploration.proofs.CoveredRuns.{opened_of}
 
 -- the same program and limits
 pub begins_program : (c first : MachineState) → Begins c first → (c.tree ≡ first.tree) × (c.limits ≡ first.limits)

@@ -16,7 +16,7 @@ use Rattle.threads_monitors.specs.declared.effects.Effect.TheVariants.{Raises}
 use Rattle.instructions.specs.Frames.{when_some}
 use Rattle.interpreter.specs.declared.outcomes.InstructionOutcome.TheVariants.{OwnEffect}
 use Rattle.interpreter.specs.Calls.{CallTransition, call_answer, call_by_id, chosen_method, chosen_by, class_at, receiver, run_on, run_transition, virtual_by_id}
-use Rattle.interpreter.proofs.Running.{given_some}
+use Rattle.interpreter.proofs.MethodsToRun.{given_some}
 
 module _ (tree : Tree) (mutator : Mutator) (number operands : ℕ) (m : Frames) (o : Objects) (console : List ℕ) where
   abbrev pub null_raised : CallTransition

@@ -6,7 +6,7 @@ use Rattle.cil_model.specs.declared.types.ClassName.{ClassName}
 use Rattle.cil_model.specs.declared.trees.Tree.{Tree}
 use Rattle.cil_model.specs.declared.trees.Method.{Method}
 use Rattle.cil_model.specs.Bodies.{argument_types}
-use Rattle.name_tables.specs.declared.lookups.MemberNumber.{MemberNumber}
+use Rattle.name_tables.specs.declared.ids.MethodId.{MethodId}
 use Rattle.name_tables.specs.Numbers.{method_at}
 use Rattle.resolved_code.specs.declared.operations.Operation.{Operation}
 use Rattle.resolved_code.specs.declared.operations.Operation.TheVariants as Resolved
@@ -25,7 +25,7 @@ use Rattle.instructions.specs.Frames.{when_some}
 use Rattle.instructions.specs.Calls.{return_transition}
 use Rattle.interpreter.specs.Calls.{make_object, run_transition, virtual_transition}
 use Rattle.interpreter.specs.Instructions.{MachineTransition, link_of, linked_transition, method_of, of_calls, of_frames, of_objects, operation_transition}
-use Rattle.interpreter.proofs.Running.{given_some}
+use Rattle.interpreter.proofs.MethodsToRun.{given_some}
 
 module _ (tree : Tree) (mutator : Mutator) (m : Frames) (o : Objects) (ss : List Value) (c : List ℕ) where
   abbrev transition : LinkedInstruction → MachineTransition
@@ -44,7 +44,7 @@ module _ (tree : Tree) (mutator : Mutator) (m : Frames) (o : Objects) (ss : List
 
   -- ---- calls, by the methods that they name
 
-  module _ (n : MemberNumber) (found : ClassName × Method) (is : method_at tree (n.class, n.index) ≡ Some found) where
+  module _ (n : MethodId) (found : ClassName × Method) (is : method_at tree (n.class, n.index) ≡ Some found) where
     number_is : number_at tree n ≡ Some (flat_number tree n.class n.index)
     number_is = ap (option_map (λ (x : ClassName × Method). flat_number tree n.class n.index)) is
 

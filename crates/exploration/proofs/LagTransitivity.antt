@@ -2,7 +2,7 @@
 use Rattle.std.proofs.Common.{◌≡◌, List, [], ◌∷◌, refl, ap, ◌∙◌, subst, map}
 use Rattle.interleaving_core.specs.Alike.{AreAlike, status_of}
 use Rattle.exploration.proofs.Names.{Tree, Frames, ThreadStatus, Live, Ended, Thread, Agree, MachineState, IsLagging, IsAhead, here, onward, IsStatusLagging, IsThreadLagging, IsCovered}
-use Rattle.exploration.proofs.Settling.{thread_itself}
+use Rattle.exploration.proofs.ChargedSteps.{thread_itself}
 
 module _ (tree : Tree) where
   further_more : (m n k : Frames) → IsAhead tree m n → IsAhead tree n k → IsAhead tree m k

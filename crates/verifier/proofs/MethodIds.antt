@@ -9,7 +9,7 @@ use Rattle.cil_model.specs.declared.trees.Tree.{Tree}
 use Rattle.cil_model.specs.declared.trees.Class.{Class}
 use Rattle.cil_model.specs.declared.trees.Method.{Method}
 use Rattle.cil_model.specs.Declarations.{Declaration, source_name, method_members}
-use Rattle.name_tables.specs.declared.lookups.MemberNumber.{MemberNumber}
+use Rattle.name_tables.specs.declared.ids.MethodId.{MethodId}
 use Rattle.name_tables.specs.Numbers.{declarations, source_entry, method_at}
 use Rattle.verifier.specs.Members.{methods_at, own_methods}
 
@@ -24,17 +24,17 @@ pub source_class : (tree : Tree) (index : ℕ) (c : Class) → slice_get tree.cl
 source_class tree index c there = simp unary_clauses (slice_get-map source_entry tree.classes index ∙ ap (option_map source_entry) there)
 
 -- one number more, and the methods that are left
-pub number_added : (tree : Tree) (c : Class) (class index : ℕ) (so_far : List MemberNumber) {X : Type 0} (shown : X → Method) (xs : List X) (x : X) (whole : List (Option (ClassName × Method))) →
+pub number_added : (tree : Tree) (c : Class) (class index : ℕ) (so_far : List MethodId) {X : Type 0} (shown : X → Method) (xs : List X) (x : X) (whole : List (Option (ClassName × Method))) →
     slice_get (declarations tree) class ≡ Some (source_entry c) → map shown xs ≡ method_members c → index < length xs → x ≡ get_or xs index x →
     methods_at tree so_far ++ map Some (map (λ (m : Method). (source_name c, m)) (map shown (drop index xs))) ≡ whole →
     methods_at tree (so_far ++ record { class = class; index = index } ∷ []) ++ map Some (map (λ (m : Method). (source_name c, m)) (map shown (drop (index + 1) xs))) ≡ whole
 number_added tree c class index so_far {X} shown xs x whole here all below at invariant =
-    ap (λ ns. ns ++ left (drop (index + 1) xs)) (map-append (λ (n : MemberNumber). method_at tree (n.class, n.index)) so_far (number ∷ []))
+    ap (λ ns. ns ++ left (drop (index + 1) xs)) (map-append (λ (n : MethodId). method_at tree (n.class, n.index)) so_far (number ∷ []))
     ∙ (append_assoc (methods_at tree so_far) (method_at tree (class, index) ∷ []) (left (drop (index + 1) xs))
     ∙ (ap (λ o. methods_at tree so_far ++ o ∷ left (drop (index + 1) xs)) found
     ∙ (ap (λ ys. methods_at tree so_far ++ left ys) (sym opened) ∙ invariant)))
   where
-    number : MemberNumber
+    number : MethodId
     number = record { class = class; index = index }
 
     left : List X → List (Option (ClassName × Method))
@@ -50,7 +50,7 @@ number_added tree c class index so_far {X} shown xs x whole here all below at in
     found = next_of_class tree c class index (shown x) here (ap (λ ms. slice_get ms index) (sym all) ∙ slice_get-map shown xs index ∙ ap (option_map shown) there)
 
 -- the methods of one class more, and those of the classes that are left
-pub class_added : (tree : Tree) (index : ℕ) (c : Class) (so_far more : List MemberNumber) (whole : List (Option (ClassName × Method))) → index < length tree.classes → c ≡ get_or tree.classes index c →
+pub class_added : (tree : Tree) (index : ℕ) (c : Class) (so_far more : List MethodId) (whole : List (Option (ClassName × Method))) → index < length tree.classes → c ≡ get_or tree.classes index c →
     methods_at tree more ≡ methods_at tree so_far ++ map Some (own_methods c) →
     methods_at tree so_far ++ map Some (flat_map own_methods (drop index tree.classes)) ≡ whole →
     methods_at tree more ++ map Some (flat_map own_methods (drop (index + 1) tree.classes)) ≡ whole

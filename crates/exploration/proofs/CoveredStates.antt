@@ -3,9 +3,9 @@ use Rattle.std.proofs.Common.{Contains, ◌≡◌, ◌⊎◌, ℕ, Bool, true, f
 use Rattle.interleaving_core.proofs.simulation.Threads.Joins.{lives_alike}
 use Rattle.interleaving_core.proofs.simulation.Representation.VisibleState.{ends_refine, printed_refines}
 use Rattle.exploration.proofs.Names.{Step, Budget, Report, Blocked, Ran, HasEnded, Limits, Tree, is_refusal, State, is_live_state, Answers, step, end_of, is_live_at, ThreadStatus, Live, Ended, Thread, Agree, MachineState, IsTransition, step_is_followed, IsLagging, IsStatusLagging, IsThreadLagging, IsClosed, IsSeen, LeadsInto, CannotStep, IsTerminal, IsOver, ShownOutcome, ShowOnly, outcome_of, outcome_shown}
-use Rattle.exploration.proofs.Running.{same_answer}
-use Rattle.exploration.proofs.Settling.{live_alike}
-use Rattle.exploration.proofs.Stepping.{stays_lagging}
+use Rattle.exploration.proofs.CoveredRuns.{same_answer}
+use Rattle.exploration.proofs.ChargedSteps.{live_alike}
+use Rattle.exploration.proofs.LaggingSteps.{stays_lagging}
 
 -- ---- how threads ended
 

@@ -3,8 +3,8 @@ use Rattle.std.proofs.lemmas.List.{append-nil, drop_all}
 use Rattle.cil_model.specs.declared.trees.Method.{Method}
 use Rattle.cil_model.specs.Declarations.{source_name}
 use Rattle.verifier.specs.Members.{methods_at}
-use Rattle.verifier.proofs.MemberNumbers.{number_added}
-use Rattle.verifier.proofs.members.add_numbers.Goals as goal
+use Rattle.verifier.proofs.MethodIds.{number_added}
+use Rattle.verifier.proofs.members.add_ids.Goals as goal
 
 pub loop-index-init : goal.loop-index-init
 loop-index-init c tree class here all = ap (λ (ms : List Method). methods_at tree c.args.members.now.items ++ map Some (map (λ (m : Method). (source_name class, m)) ms)) all

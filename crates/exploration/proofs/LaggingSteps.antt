@@ -3,7 +3,7 @@ use Rattle.std.proofs.Common.{◌≡◌, ◌⊎◌, ◌≢◌, ◌-◌, ◌==◌
 use Rattle.interleaving_core.specs.simulation.interpreter.Instructions.{Answer, IsDone, answer_of}
 use Rattle.interleaving_core.proofs.Threads.HalfSteps.{live_there}
 use Rattle.exploration.proofs.Names.{option_map_or, set-set, same_Some, Step, Budget, Report, Absent, Ran, HasEnded, Frames, is_live, is_live_at, status_after, Continues, ThreadStatus, Live, Ended, Thread, OwnEffect, Agree, MachineState, mutator_of, IsStatusTransition, IsThreadTransition, IsTransition, count_step, left_by, live_thread, seats_after, agree_at, agree_set, IsLagging, IsAhead, here, onward, IsLocalMove, IsStatusLagging, IsThreadLagging}
-use Rattle.exploration.proofs.Settling.{TransitionsAlike, finish_alike}
+use Rattle.exploration.proofs.ChargedSteps.{TransitionsAlike, finish_alike}
 
 -- ---- a thread that is not live
 

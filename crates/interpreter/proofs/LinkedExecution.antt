@@ -10,7 +10,7 @@ use Rattle.loaded_program.specs.Loaded.{IsLinkedAt}
 use Rattle.threads_monitors.specs.declared.mutators.Mutator.{Mutator}
 use Rattle.threads_monitors.specs.Frames.{Frames}
 use Rattle.interpreter.specs.Instructions.{HasSmallConstant, IsAt, linked_transition, operation_transition}
-use Rattle.interpreter.proofs.Linking.{link_does, link_is}
+use Rattle.interpreter.proofs.LinkedTransitions.{link_does, link_is}
 
 -- what is linked at a method and a pc, where the frame is there
 pub linked_here : (tree : Tree) (m : Frames) (method pc : ℕ) (l : LinkedInstruction) → method ≡ m.running.method → pc ≡ m.running.pc → IsLinkedAt tree method pc l → IsLinkedAt tree m.running.method m.running.pc l
