@@ -92,7 +92,7 @@ pub fn open_machine(rt: &HostRuntime, source: &[u8]) -> Result<Machine, Stop> {
             Err(stop) => print_out_of_memory(rt, stop)?,
         }
     }
-    Err(Stop::Wrong("a source whose opening stays out of memory"))
+    Err(Stop::Wrong("a source whose machine stays out of memory"))
 }
 
 /// The machine of a source, by a call of each layer.
