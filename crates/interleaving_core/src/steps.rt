@@ -66,6 +66,7 @@ pub(crate) fn answer(thread: &mut Thread, effect: Effect) -> Report
 }
 
 /// Takes the seat of a thread whose step, of this report, was its last. Otherwise all stays.
+#[inline(always)]
 pub(crate) fn leave_if_ended(posts: &mut Posts, number: u8, report: Report)
     ensures { posts.new ≡ seats_after posts.old number report }
 {

@@ -61,6 +61,7 @@ impl History {
     }
 
     /// Takes the memory that a number of equal entries more may need. The only error is out of memory. The entries stay as they were in any case.
+    #[inline(always)]
     pub fn make_room(&mut self, times: u32) -> Result<(), AllocError>
         ensures entries { self.new.entries ≡ self.old.entries }
         ensures room { OnOk result (times ≤ self.new.room) }

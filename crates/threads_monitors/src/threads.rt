@@ -123,6 +123,7 @@ impl Thread {
     /// Counts a step of the thread by the result of its instruction, and reports it. A blocked step counts too. The thread ends
     /// where its first method has returned or a fault was raised, and else where the budget is used up; its frames go then.
     /// Of a thread that has ended the report is `Absent`, and nothing changes.
+    #[inline(always)]
     pub fn charge_step(&mut self, effect: Effect) -> Report
         ensures { (self.new, result) ≡ charge effect self.old }
     {
@@ -135,6 +136,7 @@ impl Thread {
 
     /// The same for any step. It is a separate function, so that a step after which the thread continues is short.
     #[cold]
+    #[inline(never)]
     fn charge_step_any(&mut self, effect: Effect) -> Report
         ensures { (self.new, result) ≡ charge effect self.old }
     {
