@@ -19,7 +19,7 @@ use Rattle.object_memory.specs.declared.values.Value.TheVariants.{Ref}
 use Rattle.object_memory.specs.Cells.{Cell, literal_number}
 use Rattle.object_memory.specs.Objects.{Objects, object_cell}
 use Rattle.loaded_program.specs.AllMethods.{all_methods}
-use Rattle.loaded_program.specs.BuiltInClasses.{string_class}
+use Rattle.loaded_program.specs.name_tables.declared.ids.TheConstants.{STRING_NUMBER}
 use Rattle.loaded_program.specs.MethodNumbers.{number_of}
 use Rattle.loaded_program.specs.Prepared.{local_kinds}
 use Rattle.threads_monitors.specs.declared.mutators.Mutator.{Mutator}
@@ -99,7 +99,7 @@ class_of_kind (Array a) = None
 
 -- of what lies at an address: a literal is of System.String
 abbrev pub class_at : Objects → Addr → Option (Option ℕ)
-class_at o a = option_map_or (λ n. Some (Some string_class)) (literal_number a) (option_map (λ (c : Cell). class_of_kind c.kind) (object_cell o a))
+class_at o a = option_map_or (λ n. Some (Some STRING_NUMBER)) (literal_number a) (option_map (λ (c : Cell). class_of_kind c.kind) (object_cell o a))
 
 -- the method that runs for an object
 abbrev pub chosen_method : Tree → Objects → Addr → ClassName × Method → Option (ClassName × Method)

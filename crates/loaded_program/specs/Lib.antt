@@ -6,7 +6,6 @@ pub use Rattle.class_layout.specs as class_layout
 pub use Rattle.object_memory.specs as object_memory
 pub mod AllMethods
 pub mod ResolvedKinds
-pub mod BuiltInClasses
 pub mod Prepared
 pub mod MethodNumbers
 pub mod Operands

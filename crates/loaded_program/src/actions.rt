@@ -7,7 +7,7 @@ ghost use Rattle.cil_model.specs.declared.trees.Tree.{Tree};
 ghost use Rattle.name_tables.specs.Numbers.{method_at};
 ghost use Rattle.reference_machine.specs.BuiltIn.{action_of};
 ghost use Rattle.loaded_program.specs.Prepared.{action_named};
-ghost use Rattle.loaded_program.specs.BuiltInClasses.{monitor_class, thread_class};
+ghost use Rattle.name_tables.specs.declared.ids.TheConstants.{MONITOR_NUMBER, THREAD_NUMBER};
 
 use name_tables::ids::{CONSOLE, MONITOR, MethodId, OBJECT, THREAD};
 
@@ -29,7 +29,7 @@ pub enum Action {
 }
 
 fn monitor_action(index: usize) -> Option<Action>
-    ensures { (tree : Tree) (c : ClassName) (m : Method) → method_at tree (monitor_class, index) ≡ Some (c, m) → option_map action_named result ≡ action_of c m }
+    ensures { (tree : Tree) (c : ClassName) (m : Method) → method_at tree (MONITOR_NUMBER, index) ≡ Some (c, m) → option_map action_named result ≡ action_of c m }
 {
     match index {
         0 => Some(Action::Enter),
@@ -39,7 +39,7 @@ fn monitor_action(index: usize) -> Option<Action>
 }
 
 fn thread_action(index: usize) -> Option<Action>
-    ensures { (tree : Tree) (c : ClassName) (m : Method) → method_at tree (thread_class, index) ≡ Some (c, m) → option_map action_named result ≡ action_of c m }
+    ensures { (tree : Tree) (c : ClassName) (m : Method) → method_at tree (THREAD_NUMBER, index) ≡ Some (c, m) → option_map action_named result ≡ action_of c m }
 {
     match index {
         0 => Some(Action::Construct),

@@ -35,23 +35,48 @@ pub struct MethodId {
     pub index: usize,
 }
 
-/// `System.Object`
-pub const OBJECT: ClassId = ClassId { number: 0 };
+/// The number of `System.Object`.
+pub const OBJECT_NUMBER: usize = 0;
 
-/// `System.String`, whose objects are the literals.
-pub const STRING: ClassId = ClassId { number: 1 };
+/// The number of `System.String`, whose objects are the literals.
+pub const STRING_NUMBER: usize = 1;
 
-/// `System.Console`
-pub const CONSOLE: ClassId = ClassId { number: 2 };
+/// The number of `System.Console`.
+pub const CONSOLE_NUMBER: usize = 2;
 
-/// `System.Threading.Monitor`
-pub const MONITOR: ClassId = ClassId { number: 3 };
+/// The number of `System.Threading.Monitor`.
+pub const MONITOR_NUMBER: usize = 3;
 
-/// `Cilvm.Thread`
-pub const THREAD: ClassId = ClassId { number: 4 };
+/// The number of `Cilvm.Thread`.
+pub const THREAD_NUMBER: usize = 4;
 
 /// How many built-in classes there are: the number of the first class of the source.
 pub const FIRST_OF_SOURCE: usize = 5;
+
+/// `System.Object`
+pub const OBJECT: ClassId = ClassId {
+    number: OBJECT_NUMBER,
+};
+
+/// `System.String`, whose objects are the literals.
+pub const STRING: ClassId = ClassId {
+    number: STRING_NUMBER,
+};
+
+/// `System.Console`
+pub const CONSOLE: ClassId = ClassId {
+    number: CONSOLE_NUMBER,
+};
+
+/// `System.Threading.Monitor`
+pub const MONITOR: ClassId = ClassId {
+    number: MONITOR_NUMBER,
+};
+
+/// `Cilvm.Thread`
+pub const THREAD: ClassId = ClassId {
+    number: THREAD_NUMBER,
+};
 
 impl ClassId {
     /// The class with this number.

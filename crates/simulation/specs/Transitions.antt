@@ -17,7 +17,7 @@ use Rattle.interpreter.specs.cil_model.Mentions.{literals_of}
 use Rattle.collector.specs.phase_handshake.Handshakes.{Handshakes, first_handshakes, join_thread, leave_handshakes as without_seat}
 use Rattle.collector.specs.Phases.{no_progress}
 use Rattle.interpreter.specs.name_tables.declared.ids.MethodId.{MethodId}
-use Rattle.interpreter.specs.loaded_program.BuiltInClasses.{thread_class}
+use Rattle.interpreter.specs.name_tables.declared.ids.TheConstants.{THREAD_NUMBER}
 use Rattle.interpreter.specs.object_memory.declared.addresses.Addr.{Addr}
 use Rattle.interpreter.specs.object_memory.declared.values.Value.{Value}
 use Rattle.interpreter.specs.object_memory.declared.values.Value.TheVariants.{Ref}
@@ -74,7 +74,7 @@ after_request (Raises x) m = m
 
 -- Cilvm.Thread's Run by number: the second method of its class
 abbrev pub run_member : MethodId
-run_member = record { class = thread_class; index = 1 }
+run_member = record { class = THREAD_NUMBER; index = 1 }
 
 -- the thread that begins where one is started on an object: at its Run
 abbrev pub thread_for : Tree → Limits → Objects → Addr → Option Thread
