@@ -92,7 +92,7 @@ pub fn calls(threads: &(impl Threads + Sync), alloc: Global) -> [Call; 11] {
         ),
         call_result(
             "the sequential machine",
-            runs_plainly(alloc).unwrap_or(false),
+            runs_by_names(alloc).unwrap_or(false),
         ),
         call_result(
             "barriers in each phase",
@@ -248,7 +248,7 @@ fn takes_a_word_through_all_stages(alloc: Global) -> Result<bool, NoMemory> {
 }
 
 /// Whether the test interpreter runs the sum, and prints its state. None where the sum has no tree or memory runs out.
-fn runs_plainly(alloc: Global) -> Option<bool> {
+fn runs_by_names(alloc: Global) -> Option<bool> {
     let tree = read(alloc, SUM.as_bytes()).ok()?;
     is_tree_run(alloc, &tree).ok()
 }
@@ -262,19 +262,19 @@ fn is_run_with(alloc: Global, tree: &Tree, classes: &[BuiltInClass]) -> Result<b
     requires { map built_in_entry classes.now ≡ built_ins }
 {
     let names = NameTables::new(alloc, tree, classes)?;
-    is_run_plainly(alloc, &names)
+    is_run_by_names(alloc, &names)
 }
 
-fn is_run_plainly(alloc: Global, names: &NameTables) -> Result<bool, NoMemory> {
+fn is_run_by_names(alloc: Global, names: &NameTables) -> Result<bool, NoMemory> {
     let names = OracleNames::new(alloc, &*names)?;
     let opened = OracleMachine::new(alloc, &names, LIMITS)?;
     match opened {
         None => Ok(false),
-        Some(machine) => is_plain_run(alloc, machine),
+        Some(machine) => is_run_of_sum(alloc, machine),
     }
 }
 
-fn is_plain_run(alloc: Global, mut machine: OracleMachine<'_>) -> Result<bool, NoMemory> {
+fn is_run_of_sum(alloc: Global, mut machine: OracleMachine<'_>) -> Result<bool, NoMemory> {
     let shown = format!(in alloc; "{machine}")?;
     let mut last = None;
     for _ in 0..5 {

@@ -9,7 +9,7 @@ use Rattle.object_memory.specs.Spaces.{Spaces, AreSpaces, change_at, change_copi
 use Rattle.object_memory.specs.Objects.{Objects}
 use Rattle.object_memory.specs.Values.{value_word}
 use Rattle.object_memory.proofs.Blocks.{other_in, unchanged_in}
-use Rattle.object_memory.proofs.TwoBlocks.{apart, new_is_cell, not_new, not_old, old_is_cell, slot_keeps}
+use Rattle.object_memory.proofs.TwoSpaces.TwoBlocks.{apart, new_is_cell, not_new, not_old, old_is_cell, slot_keeps}
 use Rattle.barriers.specs.Barriers.{forward_value, stored_value, with_both}
 
 -- the two copies of an object, each of which holds the other's address

@@ -116,7 +116,7 @@ impl<'a> Classes<'a> {
             Element::Object => OracleElement::Object,
             Element::String => OracleElement::String,
             Element::Class(name) => {
-                let class = self.names.classes.number(ClassKey::of(name));
+                let class = self.names.classes.id(ClassKey::of(name));
                 OracleElement::Class(class.ok_or(Halt::Sticks)?.number())
             }
         };
@@ -146,7 +146,7 @@ impl<'a> Classes<'a> {
     /// Whether one of the names is the class's.
     fn is_among(&self, names: &[ClassName], class: ClassId) -> bool {
         for name in names {
-            if self.names.classes.number(ClassKey::of(name)) == Some(class) {
+            if self.names.classes.id(ClassKey::of(name)) == Some(class) {
                 return true;
             }
         }

@@ -18,7 +18,7 @@ use Rattle.name_tables.specs.Numbers.{class_number, chain_numbers, declarations,
 use Rattle.name_tables.specs.Sameness.{MethodIdentity, identity_of, same_identity, same_called, called_of}
 use Rattle.name_tables.specs.SamenessLaws.{same_identity_equal, same_identity_itself}
 use Rattle.name_tables.specs.declared.ids.MethodId.{MethodId}
-use Rattle.resolved_code.specs.Found.{is_virtual_found, slot_filled_at, slot_over, slot_by_id}
+use Rattle.resolved_code.specs.VirtualSlots.{is_virtual_found, slot_filled_at, slot_over, slot_by_id}
 use Rattle.resolved_code.specs.Identities.{identities, identity_number}
 use Rattle.resolved_code.specs.Resolved.{AllAlike, AreResolved, IsResolvedKind, IsResolvedMethod, BothAlike}
 use Rattle.resolved_code.specs.declared.classes.ResolvedClass.{ResolvedClass}

@@ -20,7 +20,7 @@ use Rattle.name_tables.specs.Numbers.{declarations, class_number, chain_numbers,
 use Rattle.name_tables.specs.declared.ids.MethodId.{MethodId}
 use Rattle.name_tables.proofs.NumberLaws.{none_is_some, in_present}
 use Rattle.name_tables.proofs.Lists.{option_map_of_map}
-use Rattle.resolved_code.specs.Found.{is_virtual_found, slot_by_id}
+use Rattle.resolved_code.specs.VirtualSlots.{is_virtual_found, slot_by_id}
 use Rattle.resolved_code.proofs.Numbers.Methods.{found_by_number, nothing_found}
 use Rattle.resolved_code.proofs.Numbers.Slots.{IsTied, tied, same_slot}
 use Rattle.resolved_code.specs.ById.{class_name}

@@ -10,7 +10,7 @@ use Rattle.cil_model.specs.Chains.{methods_declared, is_interface, is_virtual}
 use Rattle.name_tables.specs.Sameness.{MethodIdentity, identity_of, same_called, called_of}
 use Rattle.name_tables.specs.Numbers.{declarations, class_number, chain_numbers, index_in, method_found}
 use Rattle.name_tables.specs.declared.ids.MethodId.{MethodId}
-use Rattle.resolved_code.specs.Found.{is_virtual_found, slot_by_id}
+use Rattle.resolved_code.specs.VirtualSlots.{is_virtual_found, slot_by_id}
 use Rattle.class_layout.specs.ByClass.{by_class, interface_numbers}
 use Rattle.class_layout.specs.declared.targets.Targets.{Targets}
 use Rattle.class_layout.specs.declared.targets.Targets.TheVariants.{Itself, ByClass}

@@ -14,7 +14,7 @@ use Rattle.collector.specs.References.{holds_reference, reference_in}
 use Rattle.collector.specs.Marking.{word_of}
 use Rattle.collector.specs.Soundness.{IsSoundHeap}
 use Rattle.collector.specs.declared.progress.Progress.{Progress}
-use Rattle.collector.specs.declared.walks.Found.{Found}
+use Rattle.collector.specs.declared.walks.FoundObject.{FoundObject}
 
 -- ---- values
 
@@ -61,5 +61,5 @@ pub record IsForwardable (layout : Layout) (o : Objects) (a : Addr) (slot word :
 -- ---- walks
 
 -- what is found at an address of a block
-abbrev pub found_at : Cells → ℕ → Found
+abbrev pub found_at : Cells → ℕ → FoundObject
 found_at s at = record { offset = at - s.start; object = record { number = at } }

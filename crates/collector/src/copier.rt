@@ -13,7 +13,7 @@ ghost use Rattle.collector.specs.Soundness.{copied_word};
 
 use crate::progress::{Attempt, MOST_FAILED_CHECKS, Progress, Stage};
 use crate::references::holds_reference;
-use crate::walks::{Found, next_copied};
+use crate::walks::{FoundObject, next_copied};
 use barriers::forward;
 use class_layout::Layout;
 use object_memory::{Addr, Heap, Monitor, Value, ValueKind};
@@ -73,7 +73,13 @@ pub fn copy_step(progress: &mut Progress, heap: &mut Heap, layout: &Layout) -> b
 }
 
 /// Loads the next word of an old object; after three failed checks, stores it in the other copy too and advances to the next word.
-fn begin_word(progress: &mut Progress, heap: &mut Heap, layout: &Layout, next: Found, copy: Addr)
+fn begin_word(
+    progress: &mut Progress,
+    heap: &mut Heap,
+    layout: &Layout,
+    next: FoundObject,
+    copy: Addr,
+)
     requires spaces { AreSpaces heap.old.spaces }
     requires there { IsSome (cell_in heap.old.spaces.old next.object) × IsSome (cell_at heap.old.spaces copy) }
     requires offset { next ≡ found_at heap.old.spaces.old next.object.number }
@@ -107,7 +113,7 @@ fn load_word(heap: &Heap, object: Addr, word: u32, attempt: &mut Attempt)
 
 /// Advances to the next word of an old object where the object still has what was loaded; else the next attempt begins, with one more
 /// failed check.
-fn check_word(progress: &mut Progress, heap: &Heap, next: Found)
+fn check_word(progress: &mut Progress, heap: &Heap, next: FoundObject)
     requires spaces { AreSpaces heap.now.spaces }
     requires there { IsSome (cell_in heap.now.spaces.old next.object) }
     requires offset { next ≡ found_at heap.now.spaces.old next.object.number }
@@ -159,7 +165,7 @@ fn is_same_monitor(a: Monitor, b: Monitor) -> bool
 }
 
 /// Advances to the next word of an old object, or past the object where this was its last word. No attempt at that word is under way.
-fn pass_word(progress: &mut Progress, heap: &Heap, next: Found)
+fn pass_word(progress: &mut Progress, heap: &Heap, next: FoundObject)
     requires spaces { AreSpaces heap.now.spaces }
     requires there { IsSome (cell_in heap.now.spaces.old next.object) }
     requires offset { next ≡ found_at heap.now.spaces.old next.object.number }

@@ -9,7 +9,7 @@ use object_memory::{Addr, Heap};
 
 /// An object of a block, and how many words of the block lie before it.
 #[derive(Clone, Copy)]
-pub(crate) struct Found {
+pub(crate) struct FoundObject {
     pub offset: u32,
     pub object: Addr,
 }
@@ -17,7 +17,7 @@ pub(crate) struct Found {
 /// An old object with two copies, and the address of the new one.
 #[derive(Clone, Copy)]
 pub(crate) struct Twin {
-    pub found: Found,
+    pub found: FoundObject,
     pub copy: Addr,
 }
 
@@ -32,7 +32,7 @@ pub(crate) fn next_copied(heap: &Heap, offset: u32) -> Option<Twin>
     let mut at = offset;
     while let Some(object) = heap.old_at(at) {
         if let Some(copy) = heap.other(object) {
-            let found = Found { offset: at, object };
+            let found = FoundObject { offset: at, object };
             return Some(Twin { found, copy });
         }
         at += heap.size(object);
@@ -41,7 +41,7 @@ pub(crate) fn next_copied(heap: &Heap, offset: u32) -> Option<Twin>
 }
 
 /// The first object of the new block that has a mark or another copy, at an offset or after it.
-pub(crate) fn next_noted(heap: &Heap, offset: u32) -> Option<Found>
+pub(crate) fn next_noted(heap: &Heap, offset: u32) -> Option<FoundObject>
     requires spaces { AreSpaces heap.now.spaces }
     requires offset { IsOffset heap.now.spaces.new (heap.now.spaces.new.start + offset) }
     ensures found { result ≡ option_map (found_at heap.now.spaces.new) (found_in is_noted heap.now.spaces.new (heap.now.spaces.new.start + offset)) }
@@ -50,7 +50,7 @@ pub(crate) fn next_noted(heap: &Heap, offset: u32) -> Option<Found>
     let mut at = offset;
     while let Some(object) = heap.new_at(at) {
         if is_noted(heap, object) {
-            return Some(Found { offset: at, object });
+            return Some(FoundObject { offset: at, object });
         }
         at += heap.size(object);
     }

@@ -8,9 +8,9 @@ use Rattle.source_runs.specs.acceptance.declared.failure.Failure.{Failure}
 use Rattle.source_runs.specs.acceptance.declared.failure.Failure.TheVariants.{Memory}
 use Rattle.cil_model.specs.declared.limits.Limits.{Limits}
 use Rattle.outcome_search.specs.Explorations.{HasAllOutcomes, IsFoundIn}
-use Rattle.outcome_search.specs.exploration.Findings.{has_deadlock}
+use Rattle.outcome_search.specs.exploration.FoundOutcomes.{has_deadlock}
 use Rattle.outcome_search.specs.exploration.Paths.{outcome_found}
-use Rattle.outcome_search.specs.exploration.declared.findings.Found.{Found}
+use Rattle.outcome_search.specs.exploration.declared.found_outcomes.FoundOutcome.{FoundOutcome}
 use Rattle.outcome_search.specs.declared.bounds.Goal.{Goal}
 use Rattle.outcome_search.specs.declared.bounds.Goal.TheVariants.{Fault, Deadlock, Output}
 use Rattle.outcome_search.specs.declared.bounds.Stop.{Stop}
@@ -38,7 +38,7 @@ IsPictureText false text = text ≡ []
 IsPictureText true text = Unit {0}
 
 -- the lines of an outcome with its number: how it ends, a schedule, and a picture of it
-pub record IsOutcomeText (explain : Bool) (number : ℕ) (found : Found) (text : List ℕ) : Type 0 where
+pub record IsOutcomeText (explain : Bool) (number : ℕ) (found : FoundOutcome) (text : List ℕ) : Type 0 where
   pub schedule : List ℕ
   pub is_schedule : IsSchedule found.events.items schedule
   pub picture : List ℕ
@@ -46,10 +46,10 @@ pub record IsOutcomeText (explain : Bool) (number : ℕ) (found : Found) (text :
   pub all : text ≡ outcome_line number found.ends.items found.printed.items ++ schedule_line found.preemptions (length found.events.items) schedule ++ picture
 
 -- the lines of the first outcomes of a list, numbered from 1
-abbrev pub IsShownBelow : Bool → List Found → ℕ → List ℕ → Type 0
+abbrev pub IsShownBelow : Bool → List FoundOutcome → ℕ → List ℕ → Type 0
 IsShownBelow explain found zero text = text ≡ []
 IsShownBelow explain found (suc n) text =
-    (before : List ℕ) × IsShownBelow explain found n before × (last : Found) × (slice_get found n ≡ Some last) × (lines : List ℕ)
+    (before : List ℕ) × IsShownBelow explain found n before × (last : FoundOutcome) × (slice_get found n ≡ Some last) × (lines : List ℕ)
     × IsOutcomeText explain (suc n) last lines × (text ≡ before ++ lines)
 
 abbrev pub cause_of : Goal → Cause
@@ -82,32 +82,32 @@ IsExplorationText extent explain e text =
 -- ---- the outcome that is saved, and the status
 
 -- a thread is blocked or ended early, or these are not the printed bytes
-abbrev pub is_other : List ℕ → Found → Bool
+abbrev pub is_other : List ℕ → FoundOutcome → Bool
 is_other printed f = not (list_all is_done f.ends.items) || not (bytes_eq printed f.printed.items)
 
 -- the first one that is, among these
-abbrev pub first_other_in : List ℕ → List Found → Option Found
+abbrev pub first_other_in : List ℕ → List FoundOutcome → Option FoundOutcome
 first_other_in printed [] = None
 first_other_in printed (f ∷ found) = if is_other printed f then Some f else first_other_in printed found
 
 -- the first outcome with a blocked thread, with one that ended early, or with other printed bytes than the first outcome
-abbrev pub first_other : List Found → Option Found
+abbrev pub first_other : List FoundOutcome → Option FoundOutcome
 first_other [] = None
 first_other (first ∷ found) = first_other_in first.printed.items (first ∷ found)
 
 -- the texts of an outcome, if there is one: its schedule, and what a `.run` file says of its run by one worker
-abbrev pub AreTextsOf : List ℕ → Limits → Option Found → Option (List ℕ × List ℕ) → Type 0
+abbrev pub AreTextsOf : List ℕ → Limits → Option FoundOutcome → Option (List ℕ × List ℕ) → Type 0
 AreTextsOf source limits None texts = texts ≡ None
 AreTextsOf source limits (Some found) texts = (schedule : List ℕ) × IsSchedule found.events.items schedule
     × (texts ≡ Some (schedule, text_of (run_file source limits 1 found.printed.items)))
 
 -- the texts that are saved, where that is asked for
-abbrev pub AreSaved : Bool → List ℕ → Limits → List Found → Option (List ℕ × List ℕ) → Type 0
+abbrev pub AreSaved : Bool → List ℕ → Limits → List FoundOutcome → Option (List ℕ × List ℕ) → Type 0
 AreSaved false source limits found texts = texts ≡ None
 AreSaved true source limits found texts = AreTextsOf source limits (first_other found) texts
 
 -- 4 if a thread is blocked in some outcome; else 3 if one ended early in some, or the printed bytes differ; else 0 if there are no other outcomes; else 6
-abbrev pub status_of_exploration : Bool → List Found → ℕ
+abbrev pub status_of_exploration : Bool → List FoundOutcome → ℕ
 status_of_exploration complete found =
     if list_any has_deadlock found then 4
     else (if is_some (first_other found) then 3
@@ -117,7 +117,7 @@ status_of_exploration complete found =
 
 -- an exploration of a source: each outcome is that of a run by its schedule, and where it is complete, there are no others
 pub record IsExplorationOf (source : List ℕ) (limits : Limits) (e : Exploration) : Type 0 where
-  pub real : (n : ℕ) (found : Found) → slice_get e.found.items n ≡ Some found → IsFoundIn source limits found
+  pub real : (n : ℕ) (found : FoundOutcome) → slice_get e.found.items n ≡ Some found → IsFoundIn source limits found
   pub complete : e.is_complete ≡ true → HasAllOutcomes source limits (map outcome_found e.found.items)
 
 -- a source is explored: what was found is printed, and the texts that are saved are left

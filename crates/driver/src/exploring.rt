@@ -5,7 +5,7 @@ ghost use Rattle.std.specs.List.{list_all, list_any};
 ghost use Rattle.std.specs.Str.{bytes_eq};
 ghost use Rattle.source_runs.specs.acceptance.Sources.{IsNotRun};
 ghost use Rattle.driver.specs.Explorations.{AreSaved, HasExplored, IsExploredInPart, first_other, is_other, status_of_exploration};
-ghost use Rattle.outcome_search.specs.exploration.Findings.{has_deadlock};
+ghost use Rattle.outcome_search.specs.exploration.FoundOutcomes.{has_deadlock};
 ghost use Rattle.driver.specs.Outcomes.{HasNotExplored};
 ghost use Rattle.driver.specs.Outputs.{IsGivenUp, output_state};
 ghost use Rattle.driver.specs.Records.{texts_of};
@@ -17,7 +17,7 @@ use crate::showing::are_all_done;
 use cil_model::limits::Limits;
 use cil_model::memory::NoMemory;
 use commands::{Extent, Goal};
-use outcome_search::{Bounds, Exploration, Found, explore};
+use outcome_search::{Bounds, Exploration, FoundOutcome, explore};
 use outcome_text::schedule_text;
 use outputs::Out;
 use run_files::RunFile;
@@ -55,7 +55,7 @@ fn saved_files(
     is_saved: bool,
     source: &[u8],
     limits: Limits,
-    found: &[Found],
+    found: &[FoundOutcome],
 ) -> Result<Option<RecordFiles>, NoMemory>
     ensures { IfOk result (λ files. AreSaved is_saved source.now limits found.now (texts_of files)) }
 {
@@ -72,7 +72,7 @@ fn saved_files(
 }
 
 /// The first outcome in which a thread is blocked or ended early, or whose printed bytes are not those of the first outcome. None if there is none.
-fn first_other(found: &[Found]) -> Option<&Found>
+fn first_other(found: &[FoundOutcome]) -> Option<&FoundOutcome>
     ensures { option_map (λ other. other.now) result ≡ first_other found.now }
 {
     let first = found.first()?;
@@ -85,7 +85,7 @@ fn first_other(found: &[Found]) -> Option<&Found>
 }
 
 /// Whether a thread of an outcome is blocked or ended early, or its printed bytes are not these.
-fn is_other(printed: &[u8], found: &Found) -> bool
+fn is_other(printed: &[u8], found: &FoundOutcome) -> bool
     ensures { result ≡ is_other printed.now found.now }
 {
     !are_all_done(&found.ends) || *printed != *found.printed.as_slice()
@@ -110,7 +110,7 @@ fn goal_of(goal: Goal) -> outcome_search::Goal {
 }
 
 /// The status of an exploration.
-fn status_of(is_complete: bool, found: &[Found]) -> u8
+fn status_of(is_complete: bool, found: &[FoundOutcome]) -> u8
     ensures { result ≡ status_of_exploration is_complete found.now }
 {
     if has_deadlock(found) {
@@ -125,7 +125,7 @@ fn status_of(is_complete: bool, found: &[Found]) -> u8
 }
 
 /// Whether a thread is blocked in some outcome.
-fn has_deadlock(found: &[Found]) -> bool
+fn has_deadlock(found: &[FoundOutcome]) -> bool
     ensures { result ≡ list_any has_deadlock found.now }
 {
     found.iter().any(|found| found.has_deadlock())

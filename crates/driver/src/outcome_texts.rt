@@ -6,7 +6,7 @@ ghost use Rattle.driver.specs.Explorations.{IsExplorationText, IsNotPictured, Is
 use crate::outcome_pictures::picture_of;
 use cil_model::limits::Limits;
 use commands::Extent;
-use outcome_search::{Exploration, Found, Goal, Stop};
+use outcome_search::{Exploration, FoundOutcome, Goal, Stop};
 use outcome_text::{Cause, Coverage, Summary, add_outcome, add_schedule};
 use source_runs::Failure;
 use std::alloc::Global;
@@ -35,7 +35,7 @@ fn outcomes_text(
     source: &[u8],
     limits: Limits,
     explain: bool,
-    found: &[Found],
+    found: &[FoundOutcome],
 ) -> Result<String, Failure>
     ensures text { IfOk result (λ text. IsShownBelow explain found.now (length found.now) (string_bytes text)) }
     ensures failed { IfErr result (IsNotPictured source.now limits) }
@@ -56,7 +56,7 @@ fn outcome_text(
     limits: Limits,
     explain: bool,
     number: usize,
-    found: &Found,
+    found: &FoundOutcome,
 ) -> Result<String, Failure>
     ensures text { IfOk result (λ text. IsOutcomeText explain number found.now (string_bytes text)) }
     ensures failed { IfErr result (IsNotPictured source.now limits) }
@@ -75,7 +75,7 @@ fn asked_picture(
     source: &[u8],
     limits: Limits,
     explain: bool,
-    found: &Found,
+    found: &FoundOutcome,
 ) -> Result<String, Failure>
     ensures text { IfOk result (λ text. IsPictureText explain (string_bytes text)) }
     ensures failed { IfErr result (IsNotPictured source.now limits) }

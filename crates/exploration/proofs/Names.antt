@@ -4,8 +4,8 @@ pub use Rattle.exploration.specs.Lagging.{IsLagging, IsAhead, here, onward, IsSt
 pub use Rattle.exploration.specs.Paths.{AreFirstChecked, AreStepsChecked, IsNotTerminalAt, LeadsTo, events_of, IsReal, IsTerminalAt, CanStepAt, CannotStepAt, ShowsOneOf, outcome_found}
 pub use Rattle.exploration.specs.Searches.{IsLedTo, LeadsInto, IsCovered, IsClosed, AreOrdinary, IsSeen, KeepBudgets}
 pub use Rattle.exploration.specs.Shown.{CannotStep, IsTerminal, ShownOutcome, ShowOnly, outcome_shown, IsOver, outcome_of}
-pub use Rattle.exploration.specs.declared.findings.Found.{Found}
-pub use Rattle.exploration.specs.declared.findings.Path.{Path}
+pub use Rattle.exploration.specs.declared.found_outcomes.FoundOutcome.{FoundOutcome}
+pub use Rattle.exploration.specs.declared.found_outcomes.Path.{Path}
 pub use Rattle.interleaving_core.proofs.simulation.ListLaws.AgreeingLists.{agree_append, agree_length, agree_set, agree_at}
 pub use Rattle.interleaving_core.proofs.simulation.Runs.EventCorrespondence.{acknowledgement_keeps, collection_keeps, each_alike, step_is_refused, step_is_followed}
 pub use Rattle.interleaving_core.proofs.simulation.Runs.UniqueTransitions.{one_transition}

@@ -5,7 +5,7 @@ use Rattle.interleaving_core.specs.simulation.cil_model.declared.instructions.In
 use Rattle.interleaving_core.specs.simulation.cil_model.declared.trees.Line.{Line}
 use Rattle.interleaving_core.specs.simulation.resolved_code.Resolved.{IsOperation}
 use Rattle.interleaving_core.specs.simulation.resolved_code.declared.operations.Operation.{Operation}
-use Rattle.exploration.proofs.Names.{get_or_from_slice_get, slice_get-map, slice_get_within, Event, Step, Report, Blocked, Tree, MachineState, AreTransitions, IsTransition, Thread, one_transition, same_program, is_live_at, IsNotTerminalAt, IsReal, IsTerminalAt, CanStepAt, CannotStepAt, AreStepsChecked, LeadsTo, ShowsOneOf, events_of, outcome_found, Found, IsClosed, IsLedTo, LeadsInto, CannotStep, IsTerminal, ShownOutcome, ShowOnly, outcome_shown, Path}
+use Rattle.exploration.proofs.Names.{get_or_from_slice_get, slice_get-map, slice_get_within, Event, Step, Report, Blocked, Tree, MachineState, AreTransitions, IsTransition, Thread, one_transition, same_program, is_live_at, IsNotTerminalAt, IsReal, IsTerminalAt, CanStepAt, CannotStepAt, AreStepsChecked, LeadsTo, ShowsOneOf, events_of, outcome_found, FoundOutcome, IsClosed, IsLedTo, LeadsInto, CannotStep, IsTerminal, ShownOutcome, ShowOnly, outcome_shown, Path}
 
 -- the events of a path at an index
 pub events_there : (paths : List Path) (n : ℕ) (p : Path) → slice_get paths n ≡ Some p → slice_get (map events_of paths) n ≡ Some p.events.items
@@ -88,7 +88,7 @@ pub not_terminal_shown : (first : MachineState) (outcomes : List ShownOutcome) (
 not_terminal_shown first outcomes events h = (h.0, h.1, λ terminal. absurd (h.2 terminal))
 
 -- the outcome of a machine state in which no thread can make a step
-pub is_real : (first : MachineState) (found : Found) (c : MachineState) → LeadsTo first found.events.items c → IsOneOperation first.tree → IsTerminalAt first found.events.items → outcome_shown c ≡ outcome_found found → IsReal first found
+pub is_real : (first : MachineState) (found : FoundOutcome) (c : MachineState) → LeadsTo first found.events.items c → IsOneOperation first.tree → IsTerminalAt first found.events.items → outcome_shown c ≡ outcome_found found → IsReal first found
 is_real first found c led one h shows = record {
   machine_state = c;
   leads = led;
@@ -97,7 +97,7 @@ is_real first found c led one h shows = record {
 }
 
 -- an outcome of a list
-pub contains_at : (found : List Found) (n : ℕ) (f : Found) (o : ShownOutcome) → slice_get found n ≡ Some f → o ≡ outcome_found f → Contains (map outcome_found found) o
+pub contains_at : (found : List FoundOutcome) (n : ℕ) (f : FoundOutcome) (o : ShownOutcome) → slice_get found n ≡ Some f → o ≡ outcome_found f → Contains (map outcome_found found) o
 contains_at found n f o at is =
     let there : slice_get (map outcome_found found) n ≡ Some o = slice_get-map outcome_found found n ∙ (ap (option_map outcome_found) at ∙ ap Some (sym is)) in
     (n, slice_get_within (map outcome_found found) n o there, get_or_from_slice_get (map outcome_found found) n o o there)

@@ -6,4 +6,4 @@ pub mod Shown
 pub mod Paths
 pub mod CheckedSteps
 pub mod Begins
-pub mod Findings
+pub mod FoundOutcomes

@@ -7,13 +7,13 @@ use Rattle.interleaving_core.specs.simulation.MachineStates.{MachineState}
 use Rattle.interleaving_core.specs.simulation.Runs.{AreTransitions}
 use Rattle.exploration.specs.Searches.{IsClosed, IsCovered, IsLedTo, LeadsInto}
 use Rattle.exploration.specs.Shown.{CannotStep, IsTerminal, ShownOutcome, ShowOnly, outcome_shown}
-use Rattle.exploration.specs.declared.findings.Found.{Found}
-use Rattle.exploration.specs.declared.findings.Path.{Path}
+use Rattle.exploration.specs.declared.found_outcomes.FoundOutcome.{FoundOutcome}
+use Rattle.exploration.specs.declared.found_outcomes.Path.{Path}
 
 abbrev pub events_of : Path → List Event
 events_of p = p.events.items
 
-abbrev pub outcome_found : Found → ShownOutcome
+abbrev pub outcome_found : FoundOutcome → ShownOutcome
 outcome_found f = record { printed = f.printed.items; ends = f.ends.items }
 
 -- ---- one list of events
@@ -54,7 +54,7 @@ abbrev pub AreFirstChecked : MachineState → List (List Event) → List ShownOu
 AreFirstChecked first paths outcomes count = (n : ℕ) → n < count → (events : List Event) → slice_get paths n ≡ Some events → AreStepsChecked first paths events × ShowsOneOf first outcomes events
 
 -- the events of an outcome lead to a machine state that shows it, and in which no thread can make a step
-pub record IsReal (first : MachineState) (found : Found) : Type 0 where
+pub record IsReal (first : MachineState) (found : FoundOutcome) : Type 0 where
   pub machine_state : MachineState
   pub leads : LeadsTo first found.events.items machine_state
   pub ends : IsTerminal machine_state

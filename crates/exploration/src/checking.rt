@@ -11,9 +11,9 @@ ghost use Rattle.exploration.specs.Paths.{AreFirstChecked, IsNotTerminalAt, IsTe
 ghost use Rattle.exploration.specs.CheckedSteps.{AreAllChecked, AreEntries, IsLedToBy, IsStepInto};
 ghost use Rattle.exploration.specs.Searches.{IsClosed, IsCovered, IsLedTo};
 ghost use Rattle.exploration.specs.Shown.{ShowOnly, outcome_shown};
-ghost use Rattle.exploration.specs.declared.findings.Found.{Found as AnyFound};
+ghost use Rattle.exploration.specs.declared.found_outcomes.FoundOutcome.{FoundOutcome as AnyFoundOutcome};
 
-use crate::findings::{Found, Path, PathStep};
+use crate::found_outcomes::{FoundOutcome, Path, PathStep};
 use crate::replayers::{First, Replayer};
 use cil_model::events::Event;
 use cil_model::limits::MOST_THREADS;
@@ -203,7 +203,7 @@ fn can_any_step(entries: &[Option<bool>], path_index: u32) -> Option<bool>
 fn shows_one_of<M: First>(
     replayer: &Replayer<M>,
     alloc: Global,
-    found: &[Found],
+    found: &[FoundOutcome],
 ) -> Result<bool, NoMemory>
     ensures { IfOk result (λ yes. yes ≡ true → Contains (map outcome_found found.now) (outcome_shown replayer.now)) }
 {
@@ -221,7 +221,7 @@ fn check_path<M: First>(
     replayer: &mut Replayer<M>,
     alloc: Global,
     paths: &[Path],
-    found: &[Found],
+    found: &[FoundOutcome],
     path_index: u32,
     entries: &[Option<bool>],
 ) -> Result<bool, NoMemory>
@@ -248,7 +248,7 @@ fn check_each<M: First>(
     replayer: &mut Replayer<M>,
     alloc: Global,
     paths: &[Path],
-    found: &[Found],
+    found: &[FoundOutcome],
     count: u32,
     entries: &[Option<bool>],
 ) -> Result<bool, NoMemory>
@@ -282,7 +282,7 @@ fn check_paths<M: First>(
     other: &mut Replayer<M>,
     alloc: Global,
     paths: &[Path],
-    found: &[Found],
+    found: &[FoundOutcome],
 ) -> Result<bool, NoMemory>
     requires { IsLegal M.first.tree }
     ensures closed { IfOk result (λ known. known ≡ true → IsClosed (IsLedTo M.first (map events_of paths.now))) }
@@ -365,7 +365,7 @@ pub fn is_complete<M: First>(
     other: &mut Replayer<M>,
     alloc: Global,
     paths: &[Path],
-    found: &[Found],
+    found: &[FoundOutcome],
 ) -> Result<bool, NoMemory>
     requires { IsLegal M.first.tree }
     ensures { IfOk result (λ known. known ≡ true → IsComplete M.first (map events_of paths.now) (map outcome_found found.now)) }
@@ -381,7 +381,7 @@ pub fn is_complete<M: First>(
 fn is_real<M: First>(
     replayer: &mut Replayer<M>,
     alloc: Global,
-    found: &Found,
+    found: &FoundOutcome,
 ) -> Result<bool, NoMemory>
     requires { IsLegal M.first.tree }
     ensures { IfOk result (λ known. known ≡ true → IsReal M.first found.now) }
@@ -399,10 +399,10 @@ fn is_real<M: First>(
 pub fn are_real<M: First>(
     replayer: &mut Replayer<M>,
     alloc: Global,
-    found: &[Found],
+    found: &[FoundOutcome],
 ) -> Result<bool, NoMemory>
     requires { IsLegal M.first.tree }
-    ensures { IfOk result (λ known. known ≡ true → (n : ℕ) (f : AnyFound) → slice_get found.now n ≡ Some f → IsReal M.first f) }
+    ensures { IfOk result (λ known. known ≡ true → (n : ℕ) (f : AnyFoundOutcome) → slice_get found.now n ≡ Some f → IsReal M.first f) }
 {
     for index in 0..found.len() {
         if !is_real(replayer, alloc, &found[index])? {

@@ -5,11 +5,11 @@
 #![tactic(auto)]
 
 mod checking;
-mod findings;
+mod found_outcomes;
 pub mod laws;
 mod replayers;
 
 pub use checking::{FIRST_THREAD, are_real, is_complete, is_ordinary};
-pub use findings::{Found, Path, PathStep};
+pub use found_outcomes::{FoundOutcome, Path, PathStep};
 pub use interleaving_core::Machine;
 pub use replayers::{First, Replayer};

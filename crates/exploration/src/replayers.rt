@@ -13,7 +13,7 @@ ghost use Rattle.exploration.specs.Lagging.{IsLagging};
 ghost use Rattle.exploration.specs.Paths.{LeadsTo, outcome_found};
 ghost use Rattle.exploration.specs.Shown.{outcome_shown};
 
-use crate::findings::Found;
+use crate::found_outcomes::FoundOutcome;
 use cil_model::events::Event;
 use cil_model::limits::MOST_BUDGET;
 use cil_model::memory::NoMemory;
@@ -147,7 +147,7 @@ impl<M: First> Replayer<M> {
     }
 
     /// Whether the printed bytes and the ends of all threads are those of an outcome. True only if they are. It fails only if memory runs out.
-    pub fn shows(&self, alloc: Global, found: &Found) -> Result<bool, NoMemory>
+    pub fn shows(&self, alloc: Global, found: &FoundOutcome) -> Result<bool, NoMemory>
         ensures { IfOk result (λ yes. yes ≡ true → outcome_shown self.now ≡ outcome_found found.now) }
     {
         let ends = self.machine.ends(alloc)?;
@@ -164,11 +164,11 @@ impl<M: First> Replayer<M> {
         alloc: Global,
         events: Vec<Event>,
         preemptions: usize,
-    ) -> Result<Found, NoMemory>
+    ) -> Result<FoundOutcome, NoMemory>
         ensures shows { IfOk result (λ found. outcome_found found ≡ outcome_shown self.now) }
         ensures schedule { IfOk result (λ found. (found.events ≡ events) × (found.preemptions ≡ preemptions)) }
     {
-        Ok(Found {
+        Ok(FoundOutcome {
             events,
             preemptions,
             printed: self.machine.console().to_vec(alloc)?,

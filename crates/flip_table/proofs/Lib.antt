@@ -1,4 +1,4 @@
-pub mod Making
+pub mod InitialTables
 pub mod Plays
 pub mod StepsKeep
 pub mod Tokens

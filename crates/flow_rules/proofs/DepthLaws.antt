@@ -12,7 +12,7 @@ use Rattle.flow_rules.specs.Merging.{IsDepth, AreLevel, IsMerged}
 use Rattle.flow_rules.specs.Named.{type_named}
 use Rattle.resolved_code.specs.declared.types.ResolvedType.{ResolvedType}
 use Rattle.flow_rules.specs.declared.entries.StackEntry.TheVariants as Entry
-use Rattle.flow_rules.proofs.Climbing.{beyond, closest, apart}
+use Rattle.flow_rules.proofs.AncestorChains.{beyond, closest, apart}
 
 module _ (tree : Tree) where
   -- a type has one depth

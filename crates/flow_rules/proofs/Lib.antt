@@ -1,8 +1,8 @@
 pub mod Classes
-pub mod Climbing
+pub mod AncestorChains
 pub mod DepthLaws
 pub mod LineLaws
-pub mod Shorts
+pub mod ShortStacks
 pub mod Operands
 pub mod MemberLaws
 pub mod MemberRules

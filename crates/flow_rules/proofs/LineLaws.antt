@@ -14,7 +14,7 @@ use Rattle.resolved_code.specs.declared.types.ResolvedElement.TheVariants.{Objec
 use Rattle.resolved_code.specs.declared.types.ResolvedType.{ResolvedType}
 use Rattle.flow_rules.specs.Named.{element_named, type_named}
 use Rattle.flow_rules.specs.Merging.{IsDepth, IsUp, IsLine, AreLines}
-use Rattle.flow_rules.proofs.Climbing.{next, closest, type_ends}
+use Rattle.flow_rules.proofs.AncestorChains.{next, closest, type_ends}
 use Rattle.flow_rules.proofs.DepthLaws.{common_height}
 
 -- one more item after others

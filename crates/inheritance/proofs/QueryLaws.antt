@@ -15,7 +15,7 @@ use Rattle.inheritance.specs.declared.changes.Change.{Change}
 use Rattle.inheritance.specs.Changes.{latest_known, is_ordered}
 use Rattle.inheritance.specs.declared.forests.Forest.{Forest}
 use Rattle.inheritance.specs.Lines.{Ends}
-use Rattle.inheritance.specs.Ledgers.{pair_of}
+use Rattle.inheritance.specs.ScopedTables.{pair_of}
 use Rattle.inheritance.specs.Query.{at_first, below, finds_some, next_time, AreNoted, AreLater, HoldsTill, IsLatest, IsReach}
 use Rattle.inheritance.proofs.ChangeLaws.{known_late, known_upper, ordered_after}
 

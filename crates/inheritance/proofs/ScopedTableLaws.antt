@@ -11,11 +11,11 @@ use Rattle.inheritance.specs.declared.changes.Change.{Change}
 use Rattle.inheritance.specs.declared.changes.Source.{Source}
 use Rattle.inheritance.specs.declared.changes.Source.TheVariants.{Nothing, Class, Time}
 use Rattle.inheritance.specs.declared.forests.Forest.{Forest}
-use Rattle.inheritance.specs.declared.ledgers.Entry.{Entry}
+use Rattle.inheritance.specs.declared.scoped_tables.Entry.{Entry}
 use Rattle.inheritance.specs.Changes.{latest_known, known_of, is_ordered, is_past, changes_of, found_from, AreUpTo, AddsChanges}
 use Rattle.inheritance.specs.Lines.{base_in, line_within, Ends, index_in}
 use Rattle.inheritance.proofs.LineLaws.{line_of_none}
-use Rattle.inheritance.specs.Ledgers.{pair_of, nearest_from, entry_in, height_of, source_of, IsEntered, HoldsSince, IsRightBefore}
+use Rattle.inheritance.specs.ScopedTables.{pair_of, nearest_from, entry_in, height_of, source_of, IsEntered, HoldsSince, IsRightBefore}
 
 pub past_later : (t : ℕ) (cs : List Change) → is_past t cs ≡ true → is_past (t + 1) cs ≡ true
 past_later t [] h = refl

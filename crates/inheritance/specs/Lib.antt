@@ -1,6 +1,6 @@
 pub mod Changes
 pub mod Lines
-pub mod Ledgers
+pub mod ScopedTables
 pub mod Marked
 pub mod Query
 pub mod CutCycles

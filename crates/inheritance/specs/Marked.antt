@@ -1,7 +1,7 @@
 -- Declarations that are marked.
 use Rattle.std.specs.Prelude.{◌≡◌, ◌<◌, ℕ, Bool, true, false, List, [], Option, Some, None, slice_index_or}
 use Rattle.inheritance.specs.declared.forests.Forest.{Forest}
-use Rattle.inheritance.specs.Ledgers.{nearest_from}
+use Rattle.inheritance.specs.ScopedTables.{nearest_from}
 
 -- whether the declaration that is found is marked, by its class and index
 abbrev pub is_marked : List (List Bool) → Option (ℕ × ℕ) → Bool

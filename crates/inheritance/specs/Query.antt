@@ -6,7 +6,7 @@ use Rattle.inheritance.specs.declared.forests.Forest.{Forest}
 use Rattle.inheritance.specs.declared.query.Query.{Query}
 use Rattle.inheritance.specs.declared.query.Query.TheVariants.{Marked, Absent}
 use Rattle.inheritance.specs.Changes.{known_of}
-use Rattle.inheritance.specs.Ledgers.{pair_of, nearest_from}
+use Rattle.inheritance.specs.ScopedTables.{pair_of, nearest_from}
 use Rattle.inheritance.specs.Marked.{is_marked}
 
 -- whether what is found, a class and an index or nothing, is what is sought

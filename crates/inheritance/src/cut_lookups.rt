@@ -3,7 +3,7 @@
 ghost use Rattle.std.specs.Prelude.{◌≡◌, ◌<◌, ℕ, Some, None, IfOk};
 ghost use Rattle.std.specs.Option.{ForSome};
 ghost use Rattle.inheritance.specs.declared.changes.Declared.{Declared};
-ghost use Rattle.inheritance.specs.Ledgers.{pair_of, nearest_from};
+ghost use Rattle.inheritance.specs.ScopedTables.{pair_of, nearest_from};
 ghost use Rattle.inheritance.specs.CutCycles.{part_in, IsCut};
 ghost use Rattle.inheritance.specs.Cycles.{IsOwnBase};
 

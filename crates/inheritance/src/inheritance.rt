@@ -1,15 +1,15 @@
 //! The nearest declaration of each key, from each class on.
 
 ghost use Rattle.std.specs.Prelude.{◌≡◌, ◌==◌, ◌<◌, ◌↔◌, ℕ, Some, IfOk, IsTrue, OnErr, OnOk, length, map};
-ghost use Rattle.inheritance.specs.declared.ledgers.Entry.{Entry};
+ghost use Rattle.inheritance.specs.declared.scoped_tables.Entry.{Entry};
 ghost use Rattle.inheritance.specs.Lines.{Ends};
 ghost use Rattle.inheritance.specs.Changes.{known_of, AreOrdered};
-ghost use Rattle.inheritance.specs.Ledgers.{pair_of, nearest_from, entry_in, IsRight, IsDone, IsLeftOut};
+ghost use Rattle.inheritance.specs.ScopedTables.{pair_of, nearest_from, entry_in, IsRight, IsDone, IsLeftOut};
 
 use crate::changes::{Declared, found_at};
 use crate::forests::Forest;
-use crate::ledgers::ScopedTable;
 use crate::left_out::is_complete;
+use crate::scoped_tables::ScopedTable;
 use crate::tours::tour;
 use cil_model::memory::NoMemory;
 use std::alloc::Global;
@@ -68,7 +68,7 @@ impl Inheritance {
         })
     }
 
-    /// The nearest class that declares a key, from a class on, with the index of the key. `Endless` exactly where the bases of the class
+    /// The nearest class that declares a key, from a class on, with the index of the key. `Cyclic` exactly where the bases of the class
     /// do not end. Takes time with the logarithm of the number of classes that declare the key. Where the search
     /// had left out a class whose bases end, it would follow them; it leaves out none, which no contract says.
     pub fn nearest(&self, class: usize, key: usize) -> Result<Option<Declared>, Cyclic>

@@ -2,10 +2,10 @@
 
 ghost use Rattle.std.specs.Prelude.{◌≡◌, ◌↔◌, ℕ, IsTrue};
 ghost use Rattle.inheritance.specs.Lines.{Ends};
-ghost use Rattle.inheritance.specs.Ledgers.{IsLeftOut, HasBaseLeftOut};
+ghost use Rattle.inheritance.specs.ScopedTables.{IsLeftOut, HasBaseLeftOut};
 
 use crate::forests::Forest;
-use crate::ledgers::ScopedTable;
+use crate::scoped_tables::ScopedTable;
 
 /// Whether a class was not entered.
 fn is_left_out(forest: &Forest, scoped_table: &ScopedTable, class: usize) -> bool

@@ -7,7 +7,7 @@
 //! its changes by time: a class that declares it is entered (it finds that class), or left (it finds again what its base found). What a key finds
 //! from a class on is its last change before the class was entered, found by halves. A cycle is cut at one class (`CutCycles`): a chain that runs
 //! into it is two parts that end, so it takes two such look-ups. `finds_marked` and `finds_nothing` determine it for all classes in one walk over
-//! changes. `least_own_base` finds in one walk along all bases the least class that they lead back to; `classes_behind_bases` lists the classes whose
+//! changes. `least_own_base` finds in one walk along all bases the least class that they lead back to; `classes_in_topological_order` lists the classes whose
 //! bases end, each after its base.
 //!
 //! The bound: tables take time and memory with the classes and declarations, times a logarithm; a look-up takes the logarithm of the number of classes
@@ -21,10 +21,10 @@ mod cut_lookups;
 mod cycles;
 mod forests;
 mod inheritance;
-mod ledgers;
 mod left_out;
 mod nearest;
 mod query;
+mod scoped_tables;
 mod topological_order;
 mod tours;
 

@@ -2,7 +2,7 @@
 
 ghost use Rattle.std.specs.Prelude.{◌≡◌, ◌==◌, Some};
 ghost use Rattle.std.specs.List.{position_from};
-ghost use Rattle.inheritance.specs.Ledgers.{pair_of, nearest_from};
+ghost use Rattle.inheritance.specs.ScopedTables.{pair_of, nearest_from};
 
 use crate::changes::Declared;
 use crate::forests::Forest;

@@ -71,7 +71,7 @@ pub(crate) fn own_base<'a>(names: &'a NameTables<'a>, class: usize) -> Option<Fo
     let key = ClassKey::of_source(declared);
     let own_base = OwnBase {
         class: key,
-        number: names.classes.number(key)?.number(),
+        number: names.classes.id(key)?.number(),
         names,
     };
     let part = ClassPart::Base;

@@ -45,7 +45,7 @@ fn is_thread(names: &NameTables, class: ClassId) -> bool {
 
 /// Whether a class of the source extends `Cilvm.Thread`.
 fn extends_thread(names: &NameTables, class: &Class) -> bool {
-    let mut next = names.classes.number(ClassKey::of_source(class));
+    let mut next = names.classes.id(ClassKey::of_source(class));
     for _ in 0..names.classes.longest_chain() {
         let Some(number) = next else {
             return false;

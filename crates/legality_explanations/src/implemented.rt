@@ -47,7 +47,7 @@ impl Breach for NotImplemented<'_> {}
 
 /// The nearest class from one on along its bases with a method of this name and signature.
 fn owner_along<'a>(names: &NameTables<'a>, first: &Class, key: MethodKey) -> Option<ClassKey<'a>> {
-    let mut next = names.classes.number(ClassKey::of_source(first));
+    let mut next = names.classes.id(ClassKey::of_source(first));
     for _ in 0..names.classes.longest_chain() {
         let class = next?;
         if names.classes.method(class, key).is_some() {
@@ -68,7 +68,7 @@ pub(crate) fn not_implemented<'a>(
     let violations::NotImplemented { class, listed } = absent;
     let declared = names.classes.tree.classes.as_slice().get(class)?;
     let interface = listed_interface(declared, listed.interface)?;
-    let owner = names.classes.number(interface)?;
+    let owner = names.classes.id(interface)?;
     let id = MethodId {
         class: owner,
         index: listed.method,

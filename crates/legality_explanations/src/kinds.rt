@@ -200,7 +200,7 @@ fn left_open<'a>(
     class: &Class,
     open: MethodId,
 ) -> Option<Found<KindMismatch<'a>>> {
-    let first = names.classes.number(ClassKey::of_source(class))?;
+    let first = names.classes.id(ClassKey::of_source(class))?;
     let owner = open.class;
     let method = method_key(names, open)?;
     let nearer = nearer_than(names, first, owner, method)?;

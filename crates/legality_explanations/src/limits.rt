@@ -237,7 +237,7 @@ fn count_own_fields(names: &NameTables, class: ClassId) -> usize {
 /// How many instance fields an object of a class has, those of its bases counted.
 fn count_fields(names: &NameTables, class: &Class) -> usize {
     let mut count = 0usize;
-    let mut next = names.classes.number(ClassKey::of_source(class));
+    let mut next = names.classes.id(ClassKey::of_source(class));
     for _ in 0..names.classes.longest_chain() {
         let Some(number) = next else {
             return count;

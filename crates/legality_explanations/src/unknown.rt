@@ -343,7 +343,7 @@ fn field_named<'a>(fields: &[&'a Field], name: &Text) -> Option<&'a Field> {
 
 /// The nearest field of this name, from a class on through its bases.
 fn near_field<'a>(names: &NameTables<'a>, owner: ClassKey, name: &Text) -> Option<&'a Field> {
-    let mut next = names.classes.number(owner);
+    let mut next = names.classes.id(owner);
     for _ in 0..names.classes.longest_chain() {
         let class = next?;
         let declared = names.classes.class(class)?;
@@ -400,7 +400,7 @@ fn near_method<'a>(
     let longest = names.classes.longest_chain();
     let most = if name.is_some() { longest } else { 1 };
     let other = name.unwrap_or(owner.name);
-    let mut next = names.classes.number(owner);
+    let mut next = names.classes.id(owner);
     for _ in 0..most {
         let class = next?;
         let declared = names.classes.class(class)?;

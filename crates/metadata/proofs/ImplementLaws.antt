@@ -8,7 +8,7 @@ use Rattle.cil_model.specs.Chains.{chain_of, methods_declared}
 use Rattle.cil_model.specs.Legality.{implements_method}
 use Rattle.name_tables.specs.Sameness.{identity_of}
 use Rattle.name_tables.specs.Numbers.{chain_numbers}
-use Rattle.resolved_code.specs.Found.{is_virtual_found}
+use Rattle.resolved_code.specs.VirtualSlots.{is_virtual_found}
 use Rattle.resolved_code.proofs.Numbers.Methods.{virtual_nearest}
 use Rattle.resolved_code.proofs.ListLaws.Tests.{list_all_congr}
 

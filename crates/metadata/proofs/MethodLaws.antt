@@ -22,7 +22,7 @@ use Rattle.name_tables.specs.SamenessLaws.{same_identity_equal}
 use Rattle.name_tables.proofs.FirstIndices.{is_some-position_from}
 use Rattle.name_tables.proofs.NumberLaws.{found_none, found_some, found_passes, found_at_index}
 use Rattle.resolved_code.proofs.Numbers.Classes.{FoundAt, found_at}
-use Rattle.resolved_code.specs.Found.{is_virtual_found, is_override, top_open, hidden_open, concrete_by_id}
+use Rattle.resolved_code.specs.VirtualSlots.{is_virtual_found, is_override, top_open, hidden_open, concrete_by_id}
 use Rattle.resolved_code.proofs.ListLaws.Tests.{and_false}
 use Rattle.metadata.specs.Open.{hides_one, AreClear}
 

@@ -11,7 +11,7 @@ use Rattle.cil_model.specs.Declarations.{Declaration}
 use Rattle.cil_model.specs.Chains.{is_virtual, is_new_slot_method, is_abstract_method}
 use Rattle.name_tables.specs.Sameness.{MethodIdentity, identity_of}
 use Rattle.name_tables.specs.Numbers.{declarations, chain_numbers, method_found}
-use Rattle.resolved_code.specs.Found.{slot_filled_at, slot_by_id, open_by_id, is_left_open, class_leaves_open, is_override, top_open, hidden_open, stays_open, IsDecided}
+use Rattle.resolved_code.specs.VirtualSlots.{slot_filled_at, slot_by_id, open_by_id, is_left_open, class_leaves_open, is_override, top_open, hidden_open, stays_open, IsDecided}
 use Rattle.resolved_code.proofs.ListLaws.Tests.{and_false}
 
 abbrev is_abstract : Method → Bool

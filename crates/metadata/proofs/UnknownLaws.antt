@@ -19,7 +19,7 @@ use Rattle.cil_model.specs.Legality.{labels_before, is_known_extern, is_resolved
 use Rattle.name_tables.proofs.Lists.{option_map_of_map}
 use Rattle.name_tables.proofs.FirstIndices.{is_some-position_from}
 use Rattle.metadata.specs.Named.{knows_names}
-use Rattle.resolved_code.proofs.ListLaws.Tests.{first_fails, second_fails, third_fails, last_two_decide, and_false, and_turned, list_all_congr, list_any-flat_map, list_all_both}
+use Rattle.resolved_code.proofs.ListLaws.Tests.{first_fails, second_fails, third_fails, last_two_decide, and_false, and_comm, list_all_congr, list_any-flat_map, list_all_both}
 use Rattle.cil_model.proofs.Lists.{list_all-flat_map, list_all-filter_map}
 
 -- ---- classes of the source
@@ -144,7 +144,7 @@ module _ (tree : Tree) where
       sym (list_all-flat_map (knows_names tree) method_members tree.classes) ∙
       sym (list_all_both (λ m. list_all is_instruction (instructions_of m)) finds_labels (methods_of_tree tree)) ∙
       ap (λ b. b && labels_all) (sym (list_all-flat_map is_instruction instructions_of (methods_of_tree tree)) ∙ instructions_known (instructions_of_tree tree)) ∙
-      and_turned members_all labels_all
+      and_comm members_all labels_all
 
   pub code_decides : (b : Bool) → externs_known ≡ true → list_all is_class tree.classes ≡ true → types_all ≡ true → b ≡ list_all (λ (c : Class). list_all (knows_names tree) (method_members c)) tree.classes → not b ≡ lacks_name tree
   code_decides b h i j e = sym (lacks ∙ ap not (last_two_decide externs_known (list_all is_class tree.classes) types_all labels_all members_all h i j ∙ sym (e ∙ code_known)))

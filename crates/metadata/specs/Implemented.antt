@@ -6,7 +6,7 @@ use Rattle.cil_model.specs.declared.trees.Tree.{Tree}
 use Rattle.cil_model.specs.declared.trees.Method.{Method}
 use Rattle.name_tables.specs.Methods.{line_of, methods_at}
 use Rattle.name_tables.specs.Sameness.{identity_of}
-use Rattle.resolved_code.specs.Found.{is_virtual_found}
+use Rattle.resolved_code.specs.VirtualSlots.{is_virtual_found}
 
 -- whether each method of an interface has a virtual one from a class on (II.12.2)
 abbrev pub has_all : Tree → Option ℕ → ℕ → Bool

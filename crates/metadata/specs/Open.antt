@@ -8,7 +8,7 @@ use Rattle.cil_model.specs.Chains.{is_abstract_method}
 use Rattle.name_tables.specs.Methods.{line_of}
 use Rattle.name_tables.specs.Numbers.{declarations}
 use Rattle.name_tables.specs.Sameness.{MethodIdentity, identity_of}
-use Rattle.resolved_code.specs.Found.{is_override, top_open, hidden_open, IsDecided}
+use Rattle.resolved_code.specs.VirtualSlots.{is_override, top_open, hidden_open, IsDecided}
 
 -- whether each method of each class is abstract (II.15.4.2)
 abbrev pub marks_in : Tree → List (List Bool)

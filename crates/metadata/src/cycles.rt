@@ -37,7 +37,7 @@ fn is_along(names: &NameTables, first: Option<ClassId>, required: ClassId) -> bo
 fn is_own_base(names: &NameTables, class: &Class) -> bool
     ensures { result ≡ is_own_base names.now.classes.tree.now (source_name class.now) }
 {
-    let Some(number) = names.classes.number(ClassKey::of_source(class)) else {
+    let Some(number) = names.classes.id(ClassKey::of_source(class)) else {
         return false;
     };
     if names.ends(number) {

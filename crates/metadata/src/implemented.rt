@@ -5,7 +5,7 @@ ghost use Rattle.std.specs.List.{list_any, list_all};
 ghost use Rattle.cil_model.specs.Chains.{methods_declared};
 ghost use Rattle.cil_model.specs.Legality.{implements_all, lacks_implementation};
 ghost use Rattle.metadata.specs.Implemented.{has_all, AreTables};
-ghost use Rattle.resolved_code.specs.Found.{is_virtual_found};
+ghost use Rattle.resolved_code.specs.VirtualSlots.{is_virtual_found};
 ghost use Rattle.name_tables.specs.Keys.{method_of_key};
 ghost use Rattle.name_tables.specs.Methods.{line_of, methods_at};
 ghost use Rattle.name_tables.specs.Sameness.{identity_of};
@@ -137,7 +137,7 @@ fn absent_in(
     requires { AreTables methods.now.names.now.classes.tree.now tables.now }
     ensures { is_none result ≡ list_all (λ m. list_any (is_virtual_found methods.now.names.now.classes.tree.now (identity_of m)) (line_of methods.now.names.now.classes.tree.now class.now)) (methods_declared methods.now.names.now.classes.tree.now interface.now) }
 {
-    match methods.names.classes.number(ClassKey::of(interface)) {
+    match methods.names.classes.id(ClassKey::of(interface)) {
         None => None,
         Some(interface) => absent_from(methods, tables, class, interface),
     }
@@ -170,7 +170,7 @@ fn absent_in_class(
     requires { AreTables methods.now.names.now.classes.tree.now tables.now }
     ensures { is_none result ≡ implements_all methods.now.names.now.classes.tree.now class.now }
 {
-    let own = methods.names.classes.number(ClassKey::of_source(class));
+    let own = methods.names.classes.id(ClassKey::of_source(class));
     absent_in_list(methods, tables, &own, interfaces_named(&class.kind))
 }
 

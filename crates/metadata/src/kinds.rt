@@ -6,7 +6,7 @@ ghost use Rattle.std.specs.Option.{option_map_or};
 ghost use Rattle.cil_model.specs.Chains.{base_of, is_virtual, is_abstract_method};
 ghost use Rattle.cil_model.specs.Declarations.{source_name};
 ghost use Rattle.cil_model.specs.Legality.{is_interface_method, has_abstract_slot, overrides_no_virtual, kinds_fit, has_kind_mismatch};
-ghost use Rattle.resolved_code.specs.Found.{slot_filled_at, slot_over, slot_by_id, open_over, open_by_id, is_left_open, method_leaves_open, class_leaves_open, concrete_by_id};
+ghost use Rattle.resolved_code.specs.VirtualSlots.{slot_filled_at, slot_over, slot_by_id, open_over, open_by_id, is_left_open, method_leaves_open, class_leaves_open, concrete_by_id};
 ghost use Rattle.name_tables.specs.Keys.{class_of_key, method_of_key};
 ghost use Rattle.name_tables.specs.Methods.{line_of};
 ghost use Rattle.name_tables.specs.Numbers.{class_number, method_found};
@@ -255,7 +255,7 @@ fn abstract_slot(
 ) -> Result<Option<MethodId>, NoMemory>
     ensures { IfOk result (λ found. is_some found ≡ has_abstract_slot slots.now.methods.now.names.now.classes.tree.now (class_of_key class.entry)) }
 {
-    let Some(number) = slots.methods.names.classes.number(class) else {
+    let Some(number) = slots.methods.names.classes.id(class) else {
         return Ok(None);
     };
     if slots.is_decided(number) {
@@ -270,7 +270,7 @@ fn abstract_slot(
 fn base_id(names: &NameTables, class: &Class) -> Option<ClassId>
     ensures { result ≡ option_and_then (class_number names.now.classes.tree.now) (base_of names.now.classes.tree.now (source_name class.now)) }
 {
-    match names.classes.number(ClassKey::of_source(class)) {
+    match names.classes.id(ClassKey::of_source(class)) {
         None => None,
         Some(number) => names.base(number),
     }

@@ -23,7 +23,7 @@ struct Listings {
 
 fn count_listed(names: &NameTables, interfaces: &[ClassName], times: &mut Vec<usize>) {
     for name in interfaces {
-        if let Some(interface) = names.classes.number(ClassKey::of(name)) {
+        if let Some(interface) = names.classes.id(ClassKey::of(name)) {
             let number = interface.number();
             if number < times.len() {
                 times[number] = times[number].saturating_add(1);

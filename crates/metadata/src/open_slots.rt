@@ -8,7 +8,7 @@ ghost use Rattle.name_tables.specs.Keys.{method_of_key};
 ghost use Rattle.name_tables.specs.Methods.{line_of};
 ghost use Rattle.name_tables.specs.Numbers.{method_found};
 ghost use Rattle.name_tables.specs.Sameness.{MethodIdentity};
-ghost use Rattle.resolved_code.specs.Found.{top_open, hidden_open, is_override, IsDecided};
+ghost use Rattle.resolved_code.specs.VirtualSlots.{top_open, hidden_open, is_override, IsDecided};
 ghost use Rattle.metadata.specs.Open.{marks_in, hides_one, AreClear, AreDecided};
 
 use cil_model::memory::NoMemory;

@@ -8,7 +8,7 @@ use Rattle.cil_model.specs.declared.trees.Tree.{Tree}
 use Rattle.cil_model.specs.declared.trees.Method.{Method}
 use Rattle.cil_model.specs.Declarations.{Declaration}
 use Rattle.inheritance.specs.declared.forests.Forest.{Forest}
-use Rattle.inheritance.specs.Ledgers.{nearest_from}
+use Rattle.inheritance.specs.ScopedTables.{nearest_from}
 use Rattle.name_tables.specs.Members.{IsMemberTable}
 use Rattle.name_tables.specs.Methods.{virtual_index, line_of, methods_at, AreNumbers}
 use Rattle.name_tables.specs.Numbers.{declarations, nearest_number}

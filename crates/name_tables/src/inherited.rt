@@ -4,7 +4,7 @@ ghost use Rattle.std.specs.Prelude.{◌≡◌, ◌+◌, ◌<◌, ℕ, Some, IfOk
 ghost use Rattle.std.specs.List.{position_from};
 ghost use Rattle.std.specs.Option.{ForSome};
 ghost use Rattle.inheritance.specs.Lines.{index_in, Ends};
-ghost use Rattle.inheritance.specs.Ledgers.{pair_of, nearest_from};
+ghost use Rattle.inheritance.specs.ScopedTables.{pair_of, nearest_from};
 ghost use Rattle.inheritance.specs.CutCycles.{IsCut};
 ghost use Rattle.name_tables.specs.Inherited.{number_in, HaveIds};
 

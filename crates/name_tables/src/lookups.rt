@@ -5,7 +5,7 @@ ghost use Rattle.inheritance.specs.Lines.{base_in, line_within};
 ghost use Rattle.std.specs.List.{cons_option};
 ghost use Rattle.cil_model.specs.Bodies.{virtual_reference, constructor_reference};
 ghost use Rattle.cil_model.specs.Chains.{find_field, find_method, longest_chain};
-ghost use Rattle.inheritance.specs.Ledgers.{pair_of};
+ghost use Rattle.inheritance.specs.ScopedTables.{pair_of};
 ghost use Rattle.name_tables.specs.BuiltInTable.{built_in_entry};
 ghost use Rattle.cil_model.specs.Declarations.{built_ins};
 ghost use Rattle.name_tables.specs.Keys.{class_of_key, field_of_key, called_of_key, reference_of_keys};
@@ -142,7 +142,7 @@ impl<'a> NameTables<'a> {
     pub fn chain(&self, alloc: Global, name: ClassKey) -> Result<Vec<ClassId>, NoMemory>
         ensures { IfOk result (λ v. v.items ≡ chain_numbers self.now.classes.tree.now (class_of_key name.entry)) }
     {
-        match self.classes.number(name) {
+        match self.classes.id(name) {
             None => Ok(Vec::new(alloc)),
             Some(class) => self.line(alloc, class),
         }
@@ -152,7 +152,7 @@ impl<'a> NameTables<'a> {
     fn nearest_field(&self, owner: ClassKey, key: FieldKey) -> Option<FieldId>
         ensures { option_map (λ m. (m.class, m.index)) result ≡ nearest_number (field_index self.now.classes.tree.now key.entry) (chain_numbers self.now.classes.tree.now (class_of_key owner.entry)) }
     {
-        let Some(class) = self.classes.number(owner) else {
+        let Some(class) = self.classes.id(owner) else {
             return None;
         };
         field_id(self.fields.find(class, key))
@@ -179,7 +179,7 @@ impl<'a> NameTables<'a> {
     fn nearest_call(&self, owner: ClassKey, key: CallKey) -> Option<MethodId>
         ensures { option_map (λ m. (m.class, m.index)) result ≡ nearest_number (call_index self.now.classes.tree.now (called_of_key key.entry)) (chain_numbers self.now.classes.tree.now (class_of_key owner.entry)) }
     {
-        let Some(class) = self.classes.number(owner) else {
+        let Some(class) = self.classes.id(owner) else {
             return None;
         };
         self.call_from(class, key)
@@ -205,7 +205,7 @@ impl<'a> NameTables<'a> {
     fn own_call(&self, owner: ClassKey, key: CallKey) -> Option<MethodId>
         ensures { option_map (λ m. (m.class, m.index)) result ≡ nearest_number (index_in (λ d. d.methods) (λ m. same_called (called_of_key key.entry) (called_of m)) self.now.classes.tree.now) (cons_option (class_number self.now.classes.tree.now (class_of_key owner.entry)) []) }
     {
-        match self.classes.number(owner) {
+        match self.classes.id(owner) {
             None => None,
             Some(class) => self.own_call_of(class, key),
         }

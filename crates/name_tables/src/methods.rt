@@ -3,7 +3,7 @@
 ghost use Rattle.std.specs.Prelude.{◌≡◌, ◌≢◌, ◌<◌, ◌==◌, Bool, IfOk, OnErr, OnOk, Some, true, false, [], is_none, is_some, length, map, not, option_map, slice_get, slice_index_or, ℕ};
 ghost use Rattle.std.specs.List.{list_all};
 ghost use Rattle.inheritance.specs.Lines.{Ends};
-ghost use Rattle.inheritance.specs.Ledgers.{nearest_from};
+ghost use Rattle.inheritance.specs.ScopedTables.{nearest_from};
 ghost use Rattle.inheritance.specs.Marked.{is_marked};
 ghost use Rattle.name_tables.specs.Entries.{declaration_in};
 ghost use Rattle.name_tables.specs.Inherited.{number_in};
@@ -142,8 +142,8 @@ impl<'a> MethodTables<'a> {
         }
     }
 
-    /// The numbers of the methods that a class declares.
-    fn numbers_at(&self, class: ClassId) -> &[usize]
+    /// The numbers of the names and signatures of the methods that a class declares.
+    fn key_numbers(&self, class: ClassId) -> &[usize]
         ensures { result.now ≡ slice_index_or (map (λ r. r.items) self.now.names.now.methods.inheritance.forest.declared.items) class [] }
     {
         match self
@@ -166,7 +166,7 @@ impl<'a> MethodTables<'a> {
         ensures ended { OnOk result (methods_at self.now.names.now.classes.tree.now interface ≢ [] → EndsIn self.now.names.now.classes.tree.now class) }
         ensures cyclic { OnErr result (¬ EndsIn self.now.names.now.classes.tree.now class) }
     {
-        let numbers = self.numbers_at(interface);
+        let numbers = self.key_numbers(interface);
         match first_missing(&self.overridable, class, numbers) {
             Ok(index) => Ok(index),
             Err(Cyclic) => Err(Cyclic),
@@ -181,7 +181,7 @@ impl<'a> MethodTables<'a> {
         ensures reported { IfOk result (λ lacking. (class : ℕ) (b : Bool) → slice_get lacking.items class ≡ Some b → EndsIn self.now.names.now.classes.tree.now class → b ≡ not (list_all (λ m. is_some (nearest_number (virtual_index self.now.names.now.classes.tree.now (identity_of m)) (line_of self.now.names.now.classes.tree.now (Some class)))) (methods_at self.now.names.now.classes.tree.now interface))) }
         ensures ended { IfOk result (λ lacking. (class : ℕ) → slice_get lacking.items class ≡ Some false → EndsIn self.now.names.now.classes.tree.now class) }
     {
-        let numbers = row_numbers(alloc, &self.overridable.keys, self.numbers_at(interface))?;
+        let numbers = row_numbers(alloc, &self.overridable.keys, self.key_numbers(interface))?;
         self.overridable
             .inheritance
             .finds_nothing(alloc, numbers.as_slice())

@@ -112,8 +112,8 @@ impl<'a> ClassTables<'a> {
         self.names.keys()
     }
 
-    /// The number of the class that a name refers to.
-    pub fn number(&self, name: ClassKey) -> Option<ClassId>
+    /// The id of the class that a name refers to.
+    pub fn id(&self, name: ClassKey) -> Option<ClassId>
         ensures { result ≡ class_number self.now.tree.now (class_of_key name.entry) }
     {
         let number = self.names.first(name)?;
@@ -144,7 +144,7 @@ impl<'a> ClassTables<'a> {
     {
         match self.base(class) {
             None => None,
-            Some(base) => self.number(base),
+            Some(base) => self.id(base),
         }
     }
 
@@ -152,7 +152,7 @@ impl<'a> ClassTables<'a> {
     pub fn declared_class(&self, name: ClassKey) -> Option<&DeclaredClass<'a>>
         ensures { option_map (λ d. declaration_in d.now) result ≡ declaration_of self.now.tree.now (class_of_key name.entry) }
     {
-        match self.number(name) {
+        match self.id(name) {
             None => None,
             Some(class) => self.class(class),
         }

@@ -9,7 +9,7 @@ use Rattle.object_memory.specs.declared.kinds.Kind.{Kind}
 use Rattle.object_memory.specs.Cells.{Cell, Cells, size, used_words, free_words, next_address, literal_number, cell_in, empty_cell}
 use Rattle.object_memory.specs.Spaces.{Spaces, IsSpace, AreSpaces, cell_at, forward, with_old, BirthSpace, InOld, Listed, InBoth, InNew, room_at, address_at, give_birth, birth_at, HasShellRoom, HasGreyRoom}
 use Rattle.object_memory.proofs.Blocks.{kept_in, was_in, last_in}
-use Rattle.object_memory.proofs.TwoBlocks.{either, AreSpaces-with_old, AreSpaces-with_new, old_is_cell, new_is_cell}
+use Rattle.object_memory.proofs.TwoSpaces.TwoBlocks.{either, AreSpaces-with_old, AreSpaces-with_new, old_is_cell, new_is_cell}
 use Rattle.object_memory.proofs.Rooms.{size-empty, HasShellRoom-with_old, HasShellRoom-with_both, HasGreyRoom-listed, HasGreyRoom-born}
 
 -- the cell in the old block, or in the new one, that a birth makes

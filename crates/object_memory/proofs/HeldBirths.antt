@@ -12,7 +12,7 @@ use Rattle.object_memory.specs.Cells.{Cell, Cells, size, free_words, next_addres
 use Rattle.object_memory.specs.Spaces.{AreSpaces, BirthSpace, birth_space_of, is_within_cycle, with_new, InBoth, Listed, room_at, shell_of, with_shell, set_other}
 use Rattle.object_memory.specs.Objects.{Objects, spaces_of, IsHeld, with_birth_at}
 use Rattle.object_memory.proofs.Blocks.{last_in, last_changed, same_in, unchanged_in}
-use Rattle.object_memory.proofs.TwoBlocks.{AreSpaces-with_new, not_new, change-is_space}
+use Rattle.object_memory.proofs.TwoSpaces.TwoBlocks.{AreSpaces-with_new, not_new, change-is_space}
 use Rattle.object_memory.proofs.Births.{AreSpaces-born, HasGreyRoom-at, birth_at-no_literal}
 use Rattle.object_memory.proofs.Rooms.{size-empty, HasGreyRoom-change}
 

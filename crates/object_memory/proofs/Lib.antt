@@ -1,13 +1,11 @@
 pub mod Tiles
 pub mod Heaps
 pub mod Blocks
-pub mod TwoBlocks
 pub mod Rooms
 pub mod Births
-pub mod TwoCopies
 pub mod Offsets
-pub mod TwoHeld
 pub mod HeldBirths
 pub mod MonitorsAt
 pub mod Counts
 pub mod Spaces
+pub mod TwoSpaces

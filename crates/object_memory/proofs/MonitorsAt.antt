@@ -12,7 +12,7 @@ use Rattle.object_memory.specs.Cells.{Cell, size, cell_from, change_from, null, 
 use Rattle.object_memory.specs.Spaces.{AreSpaces, first_of, cell_at, change_at, birth_space_of}
 use Rattle.object_memory.specs.Objects.{Objects, with_birth, with_cell, with_literal_monitor, with_slot, monitor_at, with_monitor}
 use Rattle.cil_model.specs.declared.phases.Phase.{Phase}
-use Rattle.object_memory.proofs.TwoBlocks.{change-own, change-other}
+use Rattle.object_memory.proofs.TwoSpaces.TwoBlocks.{change-own, change-other}
 use Rattle.object_memory.proofs.Births.{birth_at-kept}
 
 -- ---- addresses of literals

@@ -8,7 +8,7 @@ use Rattle.object_memory.specs.declared.kinds.Kind.{Kind}
 use Rattle.object_memory.specs.Cells.{Cell, Cells, size, used_words, free_words, next_address, cell_in, change_in, with_last, empty_cell}
 use Rattle.object_memory.specs.Spaces.{Spaces, AreSpaces, change_at, with_old, with_new, with_shell, shell_of, set_mark, set_other, open_cycle, bare, bare_words, white, whites, HasShellRoom, HasGreyRoom}
 use Rattle.object_memory.proofs.Blocks.{part_in, used_last, sum_last, sum_in, used_in, unchanged_in}
-use Rattle.object_memory.proofs.TwoBlocks.{not_new, AreSpaces-with_new}
+use Rattle.object_memory.proofs.TwoSpaces.TwoBlocks.{not_new, AreSpaces-with_new}
 
 -- ---- the copy always fits
 

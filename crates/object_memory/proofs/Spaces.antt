@@ -14,7 +14,7 @@ use Rattle.object_memory.specs.Cells.{Cell, Cells, size, used_words, cell_in, li
 use Rattle.object_memory.specs.Spaces.{Spaces, IsSpace, AreSpaces, with_old}
 use Rattle.object_memory.specs.Objects.{Objects, object_cell, whole_space, used_space, free_space, with_birth, with_cell}
 use Rattle.object_memory.proofs.Blocks.{range_in, none_in, next_in, used_in, used_last}
-use Rattle.object_memory.proofs.TwoBlocks.{either, AreSpaces-change, AreSpaces-with_old, change-own, change-other, with_old-last, with_old-kept}
+use Rattle.object_memory.proofs.TwoSpaces.TwoBlocks.{either, AreSpaces-change, AreSpaces-with_old, change-own, change-other, with_old-last, with_old-kept}
 
 -- ---- sizes
 

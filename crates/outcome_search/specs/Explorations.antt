@@ -8,7 +8,7 @@ use Rattle.acceptance.specs.Sources.{HasRunTo, IsAcceptedSource}
 use Rattle.exploration.specs.Paths.{IsComplete, outcome_found}
 use Rattle.exploration.specs.Searches.{KeepBudgets}
 use Rattle.exploration.specs.Shown.{IsOver, IsTerminal, ShownOutcome, outcome_of, outcome_shown}
-use Rattle.exploration.specs.declared.findings.Found.{Found}
+use Rattle.exploration.specs.declared.found_outcomes.FoundOutcome.{FoundOutcome}
 use Rattle.exploration.specs.simulation.MachineStates.{MachineState}
 use Rattle.exploration.specs.simulation.Runs.{IsRunOf}
 use Rattle.exploration.specs.simulation.reference_machine.States.{State}
@@ -25,10 +25,10 @@ HasAllOutcomes source limits outcomes =
     (tree : Tree) → IsAcceptedSource source tree → (events : List Event) (reports : List Report) (s : State) → IsRunOf tree limits events reports s → KeepBudgets reports → IsOver tree limits s → Contains outcomes (outcome_of s)
 
 -- no thread can make a step, and the machine shows the outcome
-pub record IsEnd (machine_state : MachineState) (found : Found) : Type 0 where
+pub record IsEnd (machine_state : MachineState) (found : FoundOutcome) : Type 0 where
   pub ends : IsTerminal machine_state
   pub shows : outcome_shown machine_state ≡ outcome_found found
 
 -- a machine that was made for the source has done the events of the schedule of an outcome, and shows it
-abbrev pub IsFoundIn : List ℕ → Limits → Found → Type 0
+abbrev pub IsFoundIn : List ℕ → Limits → FoundOutcome → Type 0
 IsFoundIn source limits found = (reports : List Report) × (machine_state : MachineState) × HasRunTo source limits found.events.items reports machine_state × IsEnd machine_state found

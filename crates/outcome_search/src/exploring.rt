@@ -5,7 +5,7 @@ ghost use Rattle.acceptance.specs.Sources.{IsLetIn, IsNotRun};
 ghost use Rattle.exploration.specs.simulation.cil_model.Legality.{IsLegal};
 ghost use Rattle.exploration.specs.Begins.{Begins};
 ghost use Rattle.exploration.specs.Paths.{IsReal, outcome_found};
-ghost use Rattle.exploration.specs.declared.findings.Found.{Found as AnyFound};
+ghost use Rattle.exploration.specs.declared.found_outcomes.FoundOutcome.{FoundOutcome as AnyFoundOutcome};
 ghost use Rattle.outcome_search.specs.Explorations.{HasAllOutcomes, IsFoundIn, IsOutcomeList};
 
 use crate::bounds::{Bounds, Stop};
@@ -14,7 +14,7 @@ use acceptance::{Failure, machine_of};
 use cil_model::limits::Limits;
 use cil_model::memory::NoMemory;
 use exploration::laws::no_outcome_is_missing;
-use exploration::{First, Found, Machine, Path, Replayer, are_real, is_complete};
+use exploration::{First, FoundOutcome, Machine, Path, Replayer, are_real, is_complete};
 use ilasm_reader::laws::answers_are_unique;
 use std::alloc::Global;
 use std::marker::Brand;
@@ -23,7 +23,7 @@ use std::marker::Brand;
 #[derive(Drop)]
 pub struct Exploration {
     /// The outcomes, each with a schedule that leads to it.
-    pub found: Vec<Found>,
+    pub found: Vec<FoundOutcome>,
     /// The number of states that the search found.
     pub states: usize,
     /// Whether the check has confirmed that there are no other outcomes.
@@ -47,7 +47,7 @@ pub fn explore(
 ) -> Result<Exploration, Failure>
     ensures accepted { IfOk result (λ _. IsLetIn source.now) }
     ensures complete { IfOk result (λ e. e.is_complete ≡ true → HasAllOutcomes source.now limits (map outcome_found e.found.items)) }
-    ensures real { IfOk result (λ e. (n : ℕ) (f : AnyFound) → slice_get e.found.items n ≡ Some f → IsFoundIn source.now limits f) }
+    ensures real { IfOk result (λ e. (n : ℕ) (f : AnyFoundOutcome) → slice_get e.found.items n ≡ Some f → IsFoundIn source.now limits f) }
     ensures refused { IfErr result (IsNotRun source.now limits) }
 {
     answers_are_unique();
@@ -79,7 +79,7 @@ fn explore_machines<M: First>(
     requires other_begins { Begins other M.first }
     requires legal { IsLegal M.first.tree }
     ensures complete { IfOk result (λ e. e.is_complete ≡ true → IsOutcomeList M.first (map outcome_found e.found.items)) }
-    ensures real { IfOk result (λ e. (n : ℕ) (f : AnyFound) → slice_get e.found.items n ≡ Some f → IsReal M.first f) }
+    ensures real { IfOk result (λ e. (n : ℕ) (f : AnyFoundOutcome) → slice_get e.found.items n ≡ Some f → IsReal M.first f) }
 {
     let mut replayer: Replayer<M> = Replayer::new(alloc, machine);
     let mut other: Replayer<M> = Replayer::new(alloc, other);
@@ -95,7 +95,7 @@ fn search_and_check<M: First>(
 ) -> Result<Exploration, NoMemory>
     requires { IsLegal M.first.tree }
     ensures complete { IfOk result (λ e. e.is_complete ≡ true → IsOutcomeList M.first (map outcome_found e.found.items)) }
-    ensures real { IfOk result (λ e. (n : ℕ) (f : AnyFound) → slice_get e.found.items n ≡ Some f → IsReal M.first f) }
+    ensures real { IfOk result (λ e. (n : ℕ) (f : AnyFoundOutcome) → slice_get e.found.items n ≡ Some f → IsReal M.first f) }
 {
     keep_freed_memory(alloc)?;
     let search = search(replayer, alloc, bounds)?;
@@ -117,7 +117,7 @@ fn has_found_all<M: First>(
     alloc: Global,
     paths: &[Path],
     stop: Option<Stop>,
-    found: &[Found],
+    found: &[FoundOutcome],
 ) -> Result<bool, NoMemory>
     requires { IsLegal M.first.tree }
     ensures { IfOk result (λ known. known ≡ true → IsOutcomeList M.first (map outcome_found found.now)) }
@@ -133,10 +133,10 @@ fn has_found_all<M: First>(
 fn confirm<M: First>(
     replayer: &mut Replayer<M>,
     alloc: Global,
-    found: Vec<Found>,
-) -> Result<Vec<Found>, NoMemory>
+    found: Vec<FoundOutcome>,
+) -> Result<Vec<FoundOutcome>, NoMemory>
     requires { IsLegal M.first.tree }
-    ensures { IfOk result (λ confirmed. (n : ℕ) (f : AnyFound) → slice_get confirmed.items n ≡ Some f → IsReal M.first f) }
+    ensures { IfOk result (λ confirmed. (n : ℕ) (f : AnyFoundOutcome) → slice_get confirmed.items n ≡ Some f → IsReal M.first f) }
 {
     if are_real(replayer, alloc, &found)? {
         return Ok(found);

@@ -11,5 +11,5 @@ mod states;
 mod walks;
 
 pub use bounds::{Bounds, Goal, Stop};
-pub use exploration::Found;
+pub use exploration::FoundOutcome;
 pub use exploring::{Exploration, explore};

@@ -7,7 +7,7 @@ use crate::nodes::{Candidate, Move, Node, Nodes, Rank};
 use crate::states::{Edge, States};
 use crate::walks::Walks;
 use cil_model::memory::NoMemory;
-use exploration::{FIRST_THREAD, First, Found, Path, Replayer};
+use exploration::{FIRST_THREAD, First, FoundOutcome, Path, Replayer};
 use std::alloc::Global;
 
 /// What a search found: the number of states and the outcomes. `stop` is None if it visited all states; only then are there paths, one for each state.
@@ -15,7 +15,7 @@ use std::alloc::Global;
 pub struct SearchResult {
     pub states: usize,
     pub paths: Vec<Path>,
-    pub found: Vec<Found>,
+    pub found: Vec<FoundOutcome>,
     pub stop: Option<Stop>,
 }
 
@@ -24,7 +24,7 @@ struct Searching {
     bounds: Bounds,
     states: States,
     nodes: Nodes,
-    found: Vec<Found>,
+    found: Vec<FoundOutcome>,
     stop: Option<Stop>,
 }
 
@@ -101,7 +101,7 @@ fn start<M: First>(
 }
 
 /// Whether an outcome is of this kind, given the first outcome.
-fn is_of_kind(goal: Goal, found: &Found, first: &Found) -> bool {
+fn is_of_kind(goal: Goal, found: &FoundOutcome, first: &FoundOutcome) -> bool {
     match goal {
         Goal::Fault => found.has_fault(),
         Goal::Deadlock => found.has_deadlock(),

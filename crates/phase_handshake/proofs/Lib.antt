@@ -1,2 +1,2 @@
 pub mod Closeness
-pub mod Waiting
+pub mod PhaseDistances

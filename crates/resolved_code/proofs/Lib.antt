@@ -1,5 +1,5 @@
 pub mod ListLaws
-pub mod Resolving
+pub mod Resolution
 pub mod LegalPrograms
 pub mod Numbers
 pub mod InstructionOperations

@@ -6,5 +6,5 @@ pub mod Resolved
 pub mod Rules
 pub mod Outcomes
 pub mod LabelIndices
-pub mod Found
+pub mod VirtualSlots
 pub mod Contents

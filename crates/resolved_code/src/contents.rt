@@ -6,7 +6,7 @@ ghost use Rattle.resolved_code.specs.Resolved.{AreResolved};
 ghost use Rattle.resolved_code.specs.Contents.{IsContents, IsEntryPoint};
 
 use crate::classes::{ResolvedClass, ResolvedField, ResolvedMethod};
-use crate::entries::entry_number;
+use crate::entries::entry_id;
 use crate::errors::ResolveError;
 use crate::literals::Literals;
 use crate::resolved::resolve_classes;
@@ -30,7 +30,7 @@ fn entry_of_legal(names: &NameTables) -> MethodId
     requires { IsLegal names.now.classes.tree.now }
     ensures { IsEntryPoint names.now.classes.tree.now result }
 {
-    let Some(entry_point) = entry_number(names.classes.all()) else {
+    let Some(entry_point) = entry_id(names.classes.all()) else {
         unreachable!()
     };
     entry_point

@@ -34,7 +34,7 @@ pub fn entry_index(methods: &[&Method]) -> Option<usize>
 }
 
 /// The id of the first method with an entry point.
-pub(crate) fn entry_number(classes: &[ClassTable]) -> Option<MethodId>
+pub(crate) fn entry_id(classes: &[ClassTable]) -> Option<MethodId>
     ensures { option_map (λ m. (m.class, m.index)) result ≡ entry_from 0 (map (λ t. entry_of t.class) classes.now) }
 {
     for class in 0..classes.len() {

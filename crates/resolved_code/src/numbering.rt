@@ -19,7 +19,7 @@ use std::alloc::Global;
 pub fn class_id(names: &NameTables, class: &ClassName) -> Option<ClassId>
     ensures { result ≡ class_number names.now.classes.tree.now class.now }
 {
-    names.classes.number(ClassKey::of(class))
+    names.classes.id(ClassKey::of(class))
 }
 
 /// The id of the base, where one is named. Fails where the name refers to nothing.

@@ -43,7 +43,7 @@ next_posted c = (with_next_phase c, Worked)
 abbrev pub initial_words : MachineState → ℕ
 initial_words c = next_words c.objects.spaces.old.words (used_words c.objects.spaces.old.cells) c.limits.max_words
 
--- a cycle opens, with a second block of opening_words words
+-- a cycle opens, with a second block of initial_words words
 abbrev pub cycle_opened : MachineState → MachineState
 cycle_opened c = record (with_next_phase c) { objects = record c.objects { spaces = open_cycle c.objects.spaces (initial_words c) } }
 

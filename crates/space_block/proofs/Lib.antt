@@ -1,6 +1,6 @@
-pub mod Sharing
+pub mod SharedReferences
 pub mod Places
 pub mod Values
 pub mod Walks
-pub mod Written
-pub mod Crossing
+pub mod WordSequences
+pub mod SendAndSync

@@ -1,4 +1,4 @@
 pub mod Rows
-pub mod Replacing
+pub mod ReplacedReferences
 pub mod Upward
 pub mod Memories

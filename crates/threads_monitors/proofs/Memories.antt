@@ -17,7 +17,7 @@ use Rattle.threads_monitors.specs.Frames.{Frame, Frames, size, zero_value, new_f
 use Rattle.threads_monitors.specs.Activations.{Lays, Fit, IsSoundStack, visible_frames, activation, activations, frame_of, row, lowest, moved_to, with_constructed}
 use Rattle.threads_monitors.specs.Roots.{values_of, reference_in, frames_upward, roots, with_reference, frame_with_references, with_references}
 use Rattle.threads_monitors.proofs.Rows as rows
-use Rattle.threads_monitors.proofs.Replacing as replacing
+use Rattle.threads_monitors.proofs.ReplacedReferences as replacing
 use Rattle.threads_monitors.proofs.Upward as upward
 
 -- a memory that shows these frames, and is sound

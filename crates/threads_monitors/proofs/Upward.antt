@@ -11,7 +11,7 @@ use Rattle.threads_monitors.specs.declared.frames.Activation.{Activation}
 use Rattle.threads_monitors.specs.Frames.{Frame}
 use Rattle.threads_monitors.specs.Roots.{values_of}
 use Rattle.threads_monitors.specs.Activations.{row, activation, activations, lowest}
-use Rattle.threads_monitors.proofs.Replacing.{map-reverse}
+use Rattle.threads_monitors.proofs.ReplacedReferences.{map-reverse}
 
 -- ---- lists that are read from their end
 

@@ -8,7 +8,7 @@ use Rattle.cil_model.specs.declared.trees.Tree.{Tree}
 use Rattle.cil_model.specs.Chains.{longest_chain}
 use Rattle.cil_model.specs.TypeTree.{StackType, Declared, NativeInt, Null, parent, ancestor, IsBelow}
 use Rattle.cil_model.specs.Legality.{IsLegal}
-use Rattle.flow_rules.proofs.Climbing.{too_far}
+use Rattle.flow_rules.proofs.AncestorChains.{too_far}
 use Rattle.verifier.specs.Rises.{rises_within, most_rises, rises, stack_rises, row_rises, table_rises, most_values}
 use Rattle.cil_model.proofs.Lists.{none_is_some}
 

@@ -11,7 +11,7 @@ use Rattle.object_memory.specs.declared.values.Value.{Value}
 use Rattle.object_memory.specs.declared.values.Value.TheVariants.{Ref}
 use Rattle.object_memory.specs.Cells.{Cell, cell_in}
 use Rattle.object_memory.specs.Spaces.{Spaces, AreSpaces, cell_at, forward, is_old}
-use Rattle.object_memory.proofs.TwoBlocks.{forward_else, no_literal, old_is_cell, are_distinct}
+use Rattle.object_memory.proofs.TwoSpaces.TwoBlocks.{forward_else, no_literal, old_is_cell, are_distinct}
 use Rattle.collector.specs.References.{SlotsPass, Test, ValuePasses, is_permanent, reference_in}
 use Rattle.collector.specs.Phases.{is_live, is_live_object, is_marked_address, is_marked_cell, is_marked_old, is_new, is_new_address}
 use Rattle.collector.specs.Holding.{AnyLive, Hold, MarkedOnly, NewOnly, passes}

@@ -10,7 +10,7 @@ use Rattle.object_memory.specs.declared.addresses.Addr.{Addr}
 use Rattle.object_memory.specs.declared.addresses.TheConstants.{ADDRESSES, FIRST_LITERAL}
 use Rattle.object_memory.specs.Cells.{Cell, cell_in}
 use Rattle.object_memory.specs.Spaces.{Spaces, AreSpaces, cell_at, forward, is_old}
-use Rattle.object_memory.proofs.TwoBlocks.{forward_copy, forward_else, new_is_cell, not_new, not_old, old_is_cell, are_distinct}
+use Rattle.object_memory.proofs.TwoSpaces.TwoBlocks.{forward_copy, forward_else, new_is_cell, not_new, not_old, old_is_cell, are_distinct}
 use Rattle.collector.specs.References.{is_permanent}
 use Rattle.collector.specs.Phases.{HasLooked, is_live, is_live_object, is_marked_cell, is_marked_old, is_new, is_new_address}
 use Rattle.collector.specs.Soundness.{AreCopies, IsSoundHeap}

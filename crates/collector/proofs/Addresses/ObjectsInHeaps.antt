@@ -12,7 +12,7 @@ use Rattle.object_memory.specs.Cells.{Cell, Cells, size, used_words, cell_in, li
 use Rattle.object_memory.specs.Spaces.{Spaces, IsSpace, AreSpaces, first_of, cell_at, is_there, slots_at}
 use Rattle.object_memory.specs.Objects.{Objects}
 use Rattle.object_memory.proofs.Blocks.{range_in}
-use Rattle.object_memory.proofs.TwoBlocks.{new_is_cell, old_is_cell}
+use Rattle.object_memory.proofs.TwoSpaces.TwoBlocks.{new_is_cell, old_is_cell}
 use Rattle.object_memory.specs.declared.kinds.Kind.{Kind}
 use Rattle.collector.specs.References.{SlotsPass, Test, holds_reference, reference_in}
 use Rattle.collector.specs.Phases.{is_live, is_marked_cell}

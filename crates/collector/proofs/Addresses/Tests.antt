@@ -13,7 +13,7 @@ use Rattle.object_memory.specs.declared.values.Value.{Value}
 use Rattle.object_memory.specs.declared.values.Value.TheVariants.{Ref}
 use Rattle.object_memory.specs.Cells.{Cell, cell_from, cell_in}
 use Rattle.object_memory.specs.Spaces.{Spaces, AreSpaces, cell_at, is_old}
-use Rattle.object_memory.proofs.TwoBlocks.{either, new_is_cell, not_new, not_old, old_is_cell, are_distinct}
+use Rattle.object_memory.proofs.TwoSpaces.TwoBlocks.{either, new_is_cell, not_new, not_old, old_is_cell, are_distinct}
 use Rattle.phase_handshake.specs.Handshakes.{Handshakes}
 use Rattle.phase_handshake.specs.declared.posts.Seat.{Seat}
 use Rattle.collector.specs.References.{SlotsPass, Test, ValuePasses, is_permanent, reference_in}

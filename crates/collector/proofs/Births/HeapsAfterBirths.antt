@@ -16,7 +16,7 @@ use Rattle.object_memory.specs.declared.birth_spaces.BirthSpace.{BirthSpace}
 use Rattle.object_memory.specs.declared.birth_spaces.BirthSpace.TheVariants.{InBoth, InNew, InOld, Listed}
 use Rattle.object_memory.proofs.Births.{AreSpaces-born, HasShellRoom-born, born-kept_new, born-kept_old, born-new_last, born-old_last, born-was_new, born-was_old, new_part, old_part}
 use Rattle.object_memory.proofs.Offsets.{IsOffset-last}
-use Rattle.object_memory.proofs.TwoBlocks.{forward_new, forward_null}
+use Rattle.object_memory.proofs.TwoSpaces.TwoBlocks.{forward_new, forward_null}
 use Rattle.collector.specs.References.{SlotsPass, Test, holds_reference, reference_in}
 use Rattle.collector.specs.Phases.{HasCopied, HasLooked, is_before_copies, is_live, is_marked_address, is_marked_cell, is_marked_old, is_new_address, is_of_cycle, is_read}
 use Rattle.collector.specs.Soundness.{AreBlocks, IsCleared, AreCopied, AreCopies, AreMarked, IsCopiedSlot, IsCopiedWord, IsInCopy, IsListed, IsLoaded, IsSoundHeap, copied_word}

@@ -15,7 +15,7 @@ use Rattle.object_memory.specs.declared.birth_spaces.BirthSpace.TheVariants.{InB
 use Rattle.object_memory.specs.Objects.{Objects, object_cell}
 use Rattle.object_memory.proofs.Blocks.{next_in}
 use Rattle.object_memory.proofs.Births.{AreSpaces-born, born-kept, born-kept_new, born-kept_old, born-new_last, born-old_last, born-was_new, born-was_old, new_part, old_part}
-use Rattle.object_memory.proofs.TwoBlocks.{either, forward_bare, forward_copy, forward_new, new_is_cell, not_new, not_old, old_is_cell}
+use Rattle.object_memory.proofs.TwoSpaces.TwoBlocks.{either, forward_bare, forward_copy, forward_new, new_is_cell, not_new, not_old, old_is_cell}
 use Rattle.collector.proofs.Addresses.GrowingBlocks.{false_true}
 use Rattle.collector.proofs.Births.HeapsAfterBirths.{same_address}
 

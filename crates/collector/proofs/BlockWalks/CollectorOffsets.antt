@@ -11,7 +11,7 @@ use Rattle.object_memory.specs.declared.birth_spaces.BirthSpace.{BirthSpace}
 use Rattle.object_memory.specs.declared.birth_spaces.BirthSpace.TheVariants.{InOld, Listed, InBoth, InNew}
 use Rattle.object_memory.proofs.Blocks.{kept_in}
 use Rattle.object_memory.proofs.Offsets.{IsOffset-last, IsOffset-start}
-use Rattle.object_memory.proofs.TwoBlocks.{own, still, before_in}
+use Rattle.object_memory.proofs.TwoSpaces.TwoBlocks.{own, still, before_in}
 use Rattle.collector.specs.Phases.{no_progress}
 use Rattle.collector.specs.Soundness.{HasCursor}
 use Rattle.collector.specs.declared.progress.Progress.{Progress}

@@ -9,7 +9,7 @@ use Rattle.object_memory.proofs.Offsets.{found_end, found_here, found_step, offs
 use Rattle.collector.specs.Conditions.{found_at}
 use Rattle.collector.specs.Flips.{cleared_at, cleared_on}
 use Rattle.collector.specs.declared.progress.Progress.{Progress}
-use Rattle.collector.specs.declared.walks.Found.{Found}
+use Rattle.collector.specs.declared.walks.FoundObject.{FoundObject}
 
 -- a walk has come from an offset to another, and passed no cell with the property
 pub record HasPassed (q : Cell → Bool) (s : Cells) (from at : ℕ) : Type 0 where
@@ -38,25 +38,25 @@ module _ (q : Cell → Bool) (s : Cells) (from at : ℕ) (h : HasPassed q s from
         }
 
     -- one with the property is found
-    pub found_now : q c ≡ true → ◌≡◌ {A = Option Found} (Some (record { offset = at; object = a })) (option_map (found_at s) (found_in q s (s.start + from)))
+    pub found_now : q c ≡ true → ◌≡◌ {A = Option FoundObject} (Some (record { offset = at; object = a })) (option_map (found_at s) (found_in q s (s.start + from)))
     found_now holds =
         let where' : at ≡ s.start + at - s.start = omega arith in
-        let one : ◌≡◌ {A = Found} (record { offset = at; object = a }) (record { offset = s.start + at - s.start; object = address_after_cell s at }) =
+        let one : ◌≡◌ {A = FoundObject} (record { offset = at; object = a }) (record { offset = s.start + at - s.start; object = address_after_cell s at }) =
         ap (λ (n : ℕ). record { offset = n; object = a }) where' ∙ ap (λ (x : Addr). record { offset = s.start + at - s.start; object = x }) is in
         ap Some one ∙ sym (ap (option_map (found_at s)) (sym h.found ∙ found_here q s (s.start + at) c here holds))
 
   -- at the end there is none
-  pub found_none : begins_after s at ≡ None → ◌≡◌ {A = Option Found} None (option_map (found_at s) (found_in q s (s.start + from)))
+  pub found_none : begins_after s at ≡ None → ◌≡◌ {A = Option FoundObject} None (option_map (found_at s) (found_in q s (s.start + from)))
   found_none e =
       let end = offset-last s (s.start + at) h.offset (none_begins s at e) in
       sym (ap (option_map (found_at s)) (sym h.found ∙ ap (found_in q s) end ∙ found_end q s))
 
 -- what was found determines where
-pub found_is : (s : Cells) (f : Found) (o : Option ℕ) → ◌≡◌ {A = Option Found} (Some f) (option_map (found_at s) o) → f ≡ found_at s f.object.number
+pub found_is : (s : Cells) (f : FoundObject) (o : Option ℕ) → ◌≡◌ {A = Option FoundObject} (Some f) (option_map (found_at s) o) → f ≡ found_at s f.object.number
 found_is s f None e = absurd cc
 found_is s f (Some at) e =
     let same : f ≡ found_at s at = cc in
-    let number : f.object.number ≡ at = ap (λ (x : Found). x.object.number) same in
+    let number : f.object.number ≡ at = ap (λ (x : FoundObject). x.object.number) same in
     same ∙ ap (found_at s) (sym number)
 
 -- ---- what is noted
@@ -72,15 +72,15 @@ noted_unmarked c e = rw e refl
 abbrev Outcome : Type 0
 Outcome = Progress × Objects × Bool
 
-pub cleared_done : (p : Progress) (o : Objects) (f : Found) (c : Cell) → ◌≡◌ {A = Option Found} (Some f) (option_map (found_at o.spaces.new) (found_in is_noted o.spaces.new (o.spaces.new.start + p.cursor)))
+pub cleared_done : (p : Progress) (o : Objects) (f : FoundObject) (c : Cell) → ◌≡◌ {A = Option FoundObject} (Some f) (option_map (found_at o.spaces.new) (found_in is_noted o.spaces.new (o.spaces.new.start + p.cursor)))
     → cell_in o.spaces.new f.object ≡ Some c → ◌≡◌ {A = Outcome} (record p { cursor = f.offset + size c }, record o { spaces = clear o.spaces f.object }, true) (cleared_on p o)
 cleared_done p o f c found at = by_found (found_in is_noted o.spaces.new (o.spaces.new.start + p.cursor)) found
   where
-    by_found : (x : Option ℕ) → ◌≡◌ {A = Option Found} (Some f) (option_map (found_at o.spaces.new) x)
+    by_found : (x : Option ℕ) → ◌≡◌ {A = Option FoundObject} (Some f) (option_map (found_at o.spaces.new) x)
         → ◌≡◌ {A = Outcome} (record p { cursor = f.offset + size c }, record o { spaces = clear o.spaces f.object }, true) (cleared_at p o x)
     by_found None e = absurd cc
     by_found (Some n) e =
         let same : f ≡ found_at o.spaces.new n = cc in
-        let object : f.object ≡ record { number = n } = ap (λ (x : Found). x.object) same in
+        let object : f.object ≡ record { number = n } = ap (λ (x : FoundObject). x.object) same in
         let there : cell_in o.spaces.new (record { number = n }) ≡ Some c = subst (λ a. cell_in o.spaces.new a ≡ Some c) object at in
-        rw there (ap (λ (x : Found). (record p { cursor = x.offset + size c }, record o { spaces = clear o.spaces x.object }, true)) same)
+        rw there (ap (λ (x : FoundObject). (record p { cursor = x.offset + size c }, record o { spaces = clear o.spaces x.object }, true)) same)

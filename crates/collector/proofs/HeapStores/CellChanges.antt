@@ -11,7 +11,7 @@ use Rattle.object_memory.specs.Cells.{Cell, cell_in, change_from}
 use Rattle.object_memory.specs.Spaces.{Spaces, HasShellRoom, is_noted}
 use Rattle.object_memory.proofs.Blocks.{used_in}
 use Rattle.object_memory.proofs.Rooms.{HasShellRoom-change}
-use Rattle.object_memory.proofs.TwoBlocks.{change-is_space}
+use Rattle.object_memory.proofs.TwoSpaces.TwoBlocks.{change-is_space}
 use Rattle.collector.specs.References.{SlotsPass, Test, holds_reference, reference_in}
 use Rattle.collector.specs.Phases.{HasCopied, HasLooked, is_live, is_marked_address, is_marked_cell, is_marked_old, is_new_address, is_read}
 use Rattle.collector.specs.Soundness.{AreBlocks, AreCopied, AreCopies, AreMarked, IsCopiedWord, IsInCopy, IsListed, IsLoaded, IsSoundHeap, copied_word}

@@ -14,8 +14,8 @@ use Rattle.object_memory.specs.Cells.{Cell, cell_in}
 use Rattle.object_memory.specs.Spaces.{Spaces, AreSpaces, change_at, change_copies, is_old}
 use Rattle.object_memory.specs.Objects.{Objects, object_cell, with_cell}
 use Rattle.object_memory.proofs.Blocks.{range_in}
-use Rattle.object_memory.proofs.TwoBlocks.{either, new_is_cell, not_new, not_old, old_is_cell}
-use Rattle.object_memory.proofs.TwoCopies.{change_copies-alone}
+use Rattle.object_memory.proofs.TwoSpaces.TwoBlocks.{either, new_is_cell, not_new, not_old, old_is_cell}
+use Rattle.object_memory.proofs.TwoSpaces.TwoCopies.{change_copies-alone}
 use Rattle.barriers.specs.Barriers.{reaches_both, with_both}
 use Rattle.barriers.proofs.Twins.{AreTwins, through_new, through_old}
 use Rattle.phase_handshake.specs.Handshakes.{Handshakes, IsClose}
@@ -28,7 +28,7 @@ use Rattle.collector.specs.declared.progress.Stage.TheVariants.{Begins, Stored}
 use Rattle.collector.proofs.Addresses.Disjunctions.{false_is_true}
 use Rattle.collector.proofs.Addresses.TagChanges.{KeepsTags, keeps_size, only_at, only_keeps_tags, other_address, same_address, twice}
 use Rattle.collector.proofs.HeapStores.CellChanges.{AreStored, heap_stays}
-use Rattle.collector.proofs.Copying.AgreeingCopies.{copies_by}
+use Rattle.collector.proofs.Copies.AgreeingCopies.{copies_by}
 use Rattle.collector.proofs.Addresses.LiveForwards.{has_copies, is_old_alone, live_cell, live_is_old, live_marked_or_new, marked_copy, old_not_new, reclaim_or}
 
 -- ---- threads beside the collector

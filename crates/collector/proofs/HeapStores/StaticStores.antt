@@ -15,7 +15,7 @@ use Rattle.collector.specs.Holding.{AnyLive, MarkedOnly, NewOnly, passes, static
 use Rattle.collector.specs.declared.progress.Progress.{Progress}
 use Rattle.collector.proofs.Addresses.LiveForwards.{has_copies, is_old_alone, new_is_live}
 use Rattle.collector.proofs.HeapStores.ReachedCopies.{IsBeside, not_after}
-use Rattle.collector.proofs.Marking.MarksOfStores.{live_grows, value_mark_grows, value_then_marked, value_weakens}
+use Rattle.collector.proofs.Marks.MarksOfStores.{live_grows, value_mark_grows, value_then_marked, value_weakens}
 use Rattle.collector.proofs.ThreadReferences.LiveValues.{held_by}
 use Rattle.collector.proofs.HeapStores.StoreSoundness.{IsBesideHeap, forwarded_passes}
 

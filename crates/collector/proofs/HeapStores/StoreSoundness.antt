@@ -15,7 +15,7 @@ use Rattle.object_memory.specs.Cells.{Cell, literal_number, store_monitor, store
 use Rattle.object_memory.specs.Spaces.{Spaces, AreSpaces, forward}
 use Rattle.object_memory.specs.Objects.{Objects, object_cell, with_literal_monitor, with_slot}
 use Rattle.object_memory.specs.Values.{value_word}
-use Rattle.object_memory.proofs.TwoBlocks.{no_literal}
+use Rattle.object_memory.proofs.TwoSpaces.TwoBlocks.{no_literal}
 use Rattle.barriers.specs.Barriers.{forward_value, reaches_both, stored_int, stored_monitor, stored_value, with_marked}
 use Rattle.collector.specs.References.{ValuePasses, holds_reference, reference_in}
 use Rattle.collector.specs.Phases.{is_live, is_marked_address, is_new_address}
@@ -25,10 +25,10 @@ use Rattle.collector.specs.declared.progress.Progress.{Progress}
 use Rattle.collector.proofs.Addresses.Disjunctions.{false_is_true}
 use Rattle.collector.proofs.Addresses.TagChanges.{monitor_keeps_tags, slot_keeps_tags}
 use Rattle.collector.proofs.HeapStores.CellChanges.{AreStored}
-use Rattle.collector.proofs.Copying.AgreeingCopies.{monitor_stored, monitors_alike, slots_alike, word_stored}
+use Rattle.collector.proofs.Copies.AgreeingCopies.{monitor_stored, monitors_alike, slots_alike, word_stored}
 use Rattle.collector.proofs.Addresses.LiveForwards.{forward_short, has_copies, live_forward, new_forward}
 use Rattle.collector.proofs.HeapStores.ReachedCopies.{IsBeside, IsRight, Way, in_both, in_new, in_old, change_stays, changed_by, way_of}
-use Rattle.collector.proofs.Marking.MarksOfStores.{live_grows, marked_kind, value_mark_grows, value_mark_leaves, value_mark_same, value_mark_sound, value_then_marked, value_weakens}
+use Rattle.collector.proofs.Marks.MarksOfStores.{live_grows, marked_kind, value_mark_grows, value_mark_leaves, value_mark_same, value_mark_sound, value_then_marked, value_weakens}
 use Rattle.collector.proofs.ThreadReferences.LiveValues.{IsShort, held_by, held_is_live, held_is_new, is_reference, passes_in_slot, reference_again}
 
 -- ---- threads and what they store

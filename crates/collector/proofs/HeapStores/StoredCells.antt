@@ -12,8 +12,8 @@ use Rattle.object_memory.specs.declared.values.Value.TheVariants.{Ref}
 use Rattle.object_memory.specs.Cells.{Cell}
 use Rattle.object_memory.specs.Spaces.{Spaces, cell_at, change_copies, is_old, other_of}
 use Rattle.object_memory.specs.Objects.{Objects, object_cell}
-use Rattle.object_memory.proofs.TwoBlocks.{change-other, change-own}
-use Rattle.object_memory.proofs.TwoCopies.{change_copies-alone, change_copies-else, change_copies-other, change_copies-own}
+use Rattle.object_memory.proofs.TwoSpaces.TwoBlocks.{change-other, change-own}
+use Rattle.object_memory.proofs.TwoSpaces.TwoCopies.{change_copies-alone, change_copies-else, change_copies-other, change_copies-own}
 use Rattle.barriers.specs.Barriers.{stored_static, with_marked}
 use Rattle.collector.specs.Soundness.{IsSoundHeap}
 use Rattle.collector.specs.declared.progress.Progress.{Progress}

@@ -14,7 +14,7 @@ use Rattle.object_memory.specs.Cells.{Cell, cell_in}
 use Rattle.object_memory.specs.Spaces.{IsOffset, Spaces, forward}
 use Rattle.object_memory.specs.Objects.{Objects}
 use Rattle.object_memory.proofs.Blocks.{range_in}
-use Rattle.object_memory.proofs.TwoBlocks.{forward_copy, forward_new}
+use Rattle.object_memory.proofs.TwoSpaces.TwoBlocks.{forward_copy, forward_new}
 use Rattle.barriers.specs.Barriers.{forward_value}
 use Rattle.collector.specs.References.{SlotsPass, ValuePasses, is_permanent}
 use Rattle.collector.specs.Phases.{HasCopied, HasLooked, is_before_copies, is_live, is_marked_old, is_new, is_new_address, is_of_cycle, is_read, no_progress}

@@ -12,7 +12,7 @@ use Rattle.object_memory.specs.Spaces.{AreSpaces, Spaces, IsOffset, cell_at, cle
 use Rattle.object_memory.specs.Objects.{Objects, object_cell}
 use Rattle.object_memory.proofs.Blocks.{range_in}
 use Rattle.object_memory.proofs.Offsets.{at_offset, below_next, cell, end}
-use Rattle.object_memory.proofs.TwoBlocks.{AreSpaces-change, AreSpaces-closed, IsAfter, after_in, before_in, change-new_alone, closed-new, either, new_is_cell, old_is_cell, own, still}
+use Rattle.object_memory.proofs.TwoSpaces.TwoBlocks.{AreSpaces-change, AreSpaces-closed, IsAfter, after_in, before_in, change-new_alone, closed-new, either, new_is_cell, old_is_cell, own, still}
 use Rattle.collector.specs.References.{SlotsPass}
 use Rattle.collector.proofs.BlockWalks.ChangedBlocks.{IsOffset-cell, IsOffset-change}
 use Rattle.collector.proofs.BlockWalks.CollectorOffsets.{HasCursor-begun, HasCursor-else}

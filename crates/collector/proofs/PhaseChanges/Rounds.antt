@@ -12,7 +12,7 @@ use Rattle.object_memory.specs.Cells.{Cell, cell_in}
 use Rattle.object_memory.specs.Spaces.{Spaces, open_cycle}
 use Rattle.object_memory.specs.Objects.{Objects}
 use Rattle.object_memory.proofs.Blocks.{range_in}
-use Rattle.object_memory.proofs.TwoBlocks.{AreSpaces-opened}
+use Rattle.object_memory.proofs.TwoSpaces.TwoBlocks.{AreSpaces-opened}
 use Rattle.object_memory.proofs.Rooms.{HasShellRoom-opened}
 use Rattle.phase_handshake.specs.Handshakes.{Handshakes, all_answered}
 use Rattle.collector.specs.References.{SlotsPass}
@@ -23,7 +23,7 @@ use Rattle.collector.specs.Holding.{HasNotBegun}
 use Rattle.collector.specs.declared.progress.Progress.{Progress}
 use Rattle.collector.proofs.Addresses.Tests.{marked_cell, never, none_is_new}
 use Rattle.collector.proofs.BlockWalks.CollectorOffsets.{HasCursor-begun}
-use Rattle.collector.proofs.Marking.MarkChanges.{AreCopied-in_mark, AreDarker-same, IsSoundHeap-darker}
+use Rattle.collector.proofs.Marks.MarkChanges.{AreCopied-in_mark, AreDarker-same, IsSoundHeap-darker}
 
 -- each marked old object refers to marked ones alone
 abbrev pub IsClosedMarking : Tree → Spaces → Type 0

@@ -21,7 +21,7 @@ use Rattle.collector.specs.Phases.{is_live, is_live_object, is_marked_address, i
 use Rattle.collector.specs.Holding.{AnyLive, Hold, MarkedOnly, NewOnly, hold_of, is_flipping, is_marking, may_hold, passes}
 use Rattle.collector.proofs.Addresses.Disjunctions.{false_is_true, either_true, or_second, or_more, or_of_three}
 use Rattle.collector.proofs.Addresses.LiveForwards.{marked_is_some, flipping_has_new, new_is_live}
-use Rattle.collector.proofs.Marking.MarksOfStores.{Grows, passes_then}
+use Rattle.collector.proofs.Marks.MarksOfStores.{Grows, passes_then}
 
 -- ---- threads
 

@@ -15,7 +15,7 @@ use Rattle.collector.specs.Marking.{is_closed}
 use Rattle.collector.specs.Holding.{AnyLive, Hold, MarkedOnly, NewOnly, hold_of, is_flipping, is_marking, may_hold, passes, static_hold_of, static_may_hold}
 use Rattle.collector.specs.declared.progress.Progress.{Progress}
 use Rattle.collector.proofs.Addresses.Tests.{HoldMeans, hold_means, is_marked_only, is_new_live, marked_is_live, means_marked, may_hold_live, never, static_may_hold_live}
-use Rattle.collector.proofs.Marking.MarkChanges.{AreDarker, AreDarker-same, stays_live, stays_new_address, stays_passing}
+use Rattle.collector.proofs.Marks.MarkChanges.{AreDarker, AreDarker-same, stays_live, stays_new_address, stays_passing}
 use Rattle.collector.proofs.PhaseChanges.Rounds.{HasClosed, is_closed-means}
 
 -- ---- who may hold what

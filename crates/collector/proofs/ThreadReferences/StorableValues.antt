@@ -12,7 +12,7 @@ use Rattle.object_memory.specs.declared.values.Value.{Value}
 use Rattle.object_memory.specs.Cells.{Cell, cell_in}
 use Rattle.object_memory.specs.Spaces.{AreSpaces, Spaces, is_old, other_of}
 use Rattle.object_memory.specs.Objects.{Objects, object_cell, object_slots}
-use Rattle.object_memory.proofs.TwoBlocks.{apart, either, new_is_cell, not_old, old_is_cell}
+use Rattle.object_memory.proofs.TwoSpaces.TwoBlocks.{apart, either, new_is_cell, not_old, old_is_cell}
 use Rattle.barriers.specs.Barriers.{is_monitor_storable, is_other_alike, is_other_there, is_static_storable, is_value_there, is_word_storable, reaches_both}
 use Rattle.collector.specs.References.{ValuePasses}
 use Rattle.collector.specs.Phases.{is_live, is_of_cycle}
@@ -20,7 +20,7 @@ use Rattle.collector.specs.Soundness.{IsSoundHeap}
 use Rattle.collector.specs.Holding.{passes}
 use Rattle.collector.specs.declared.progress.Progress.{Progress}
 use Rattle.collector.proofs.HeapStores.ReachedCopies.{IsBeside}
-use Rattle.collector.proofs.Marking.MarksOfStores.{value_weakens}
+use Rattle.collector.proofs.Marks.MarksOfStores.{value_weakens}
 use Rattle.collector.proofs.ThreadReferences.LiveValues.{held_by, held_is_live, live_value_is_there}
 use Rattle.collector.proofs.HeapStores.StoreSoundness.{IsBesideHeap, IsHeldObject}
 

@@ -16,7 +16,7 @@ use Rattle.simulation.specs.collector.Conditions.{AreThere}
 use Rattle.simulation.specs.collector.Marking.{with_all_marked}
 use Rattle.simulation.specs.collector.Soundness.{IsListed}
 use Rattle.simulation.specs.Collecting.{with_roots_marked}
-use Rattle.simulation.proofs.collector.Marking.MarkSteps.{all_kept, open_kept}
+use Rattle.simulation.proofs.collector.Marks.MarkSteps.{all_kept, open_kept}
 use Rattle.interleaving_core.specs.Acknowledging.{AreAllThere}
 
 -- ---- lists

@@ -57,14 +57,14 @@ use Rattle.interleaving_core.specs.Waits.{HasObject, action_at, called_member}
 
 -- a call, with what runs for it; or an instruction that calls no built-in member that acts
 pub data Calls (tree : Tree) : Instruction → Operation → Type 0 where
-  plainly : (flag : Bool) (r : MethodReference) (owner : ℕ) (method : MethodId) → IsMethod tree flag r method → Calls tree (Named.Call flag r) (Resolved.Call flag owner method)
-  virtually : (c : ClassName) (name : List ℕ) (signature : Signature) (owner : ℕ) (method : MethodId) → IsMethod tree true (virtual_reference c name signature) method →
+  by_call : (flag : Bool) (r : MethodReference) (owner : ℕ) (method : MethodId) → IsMethod tree flag r method → Calls tree (Named.Call flag r) (Resolved.Call flag owner method)
+  by_virtual_call : (c : ClassName) (name : List ℕ) (signature : Signature) (owner : ℕ) (method : MethodId) → IsMethod tree true (virtual_reference c name signature) method →
       Calls tree (Named.CallVirtual c name signature) (Resolved.CallVirtual owner method)
   nothing : (i : Instruction) (op : Operation) → called_action tree i ≡ None → called_member op ≡ None → Calls tree i op
 
 pub calls_of : (tree : Tree) (lines : List Line) (i : Instruction) (op : Operation) → IsOperation tree lines i op → Calls tree i op
-calls_of tree lines _ _ (call flag r owner method named finds) = plainly flag r owner method finds
-calls_of tree lines _ _ (call_virtual c name signature owner method named finds) = virtually c name signature owner method finds
+calls_of tree lines _ _ (call flag r owner method named finds) = by_call flag r owner method finds
+calls_of tree lines _ _ (call_virtual c name signature owner method named finds) = by_virtual_call c name signature owner method finds
 calls_of tree lines _ _ _ = nothing _ _ refl refl
 
 -- ---- the action at a frame's pc
@@ -81,8 +81,8 @@ module _ (tree : Tree) (m : Frames) (op : Operation) (at : IsAt tree m op) where
   no_member none = action_is ∙ by_calls at.line.instruction op (calls_of tree (lines_of at.found.1) at.line.instruction op at.refines) none
     where
       by_calls : (i : Instruction) (o : Operation) → Calls tree i o → called_member o ≡ None → called_action tree i ≡ None
-      by_calls _ _ (plainly flag r owner method finds) e = none_is_some method (sym e)
-      by_calls _ _ (virtually c name signature owner method finds) e = none_is_some method (sym e)
+      by_calls _ _ (by_call flag r owner method finds) e = none_is_some method (sym e)
+      by_calls _ _ (by_virtual_call c name signature owner method finds) e = none_is_some method (sym e)
       by_calls _ _ (nothing i o none' e') e = none'
 
   -- and else it is that of the method of the member's number
@@ -96,8 +96,8 @@ module _ (tree : Tree) (m : Frames) (op : Operation) (at : IsAt tree m op) where
       found_acts flag r k finds same a e = ((finds.declared_in, finds.found), subst (λ (x : MethodId). method_at tree (x.class, x.index) ≡ Some (finds.declared_in, finds.found)) same finds.has_id, e ∙ ap action_found finds.finds)
 
       by_calls : (i : Instruction) (o : Operation) → Calls tree i o → called_member o ≡ Some method → action_at tree m ≡ called_action tree i → Acting (action_at tree m)
-      by_calls _ _ (plainly flag r owner k finds) e a = found_acts flag r k finds (same_Some k method e) (action_at tree m) a
-      by_calls _ _ (virtually c name signature owner k finds) e a = found_acts true (virtual_reference c name signature) k finds (same_Some k method e) (action_at tree m) a
+      by_calls _ _ (by_call flag r owner k finds) e a = found_acts flag r k finds (same_Some k method e) (action_at tree m) a
+      by_calls _ _ (by_virtual_call c name signature owner k finds) e a = found_acts true (virtual_reference c name signature) k finds (same_Some k method e) (action_at tree m) a
       by_calls _ _ (nothing i o none' e') e a = none_is_some method (sym e' ∙ e)
 
 -- ---- the transition of a call of a member that acts
@@ -192,8 +192,8 @@ module _ (c : MachineState) (t left : ℕ) (m : Frames) (ready : IsReady c t m) 
 
         by_calls : (i : Instruction) (o : Operation) → Calls c.tree i o → called_action c.tree i ≡ Some a → (HasSmallConstant o → IsSome (operation_transition c.tree (mutator_of c t) o m c.objects c.statics c.printed)) →
             HasSmallConstant o × (operation_transition c.tree (mutator_of c t) o m c.objects c.statics c.printed ≡ of_calls c.objects c.statics c.printed (act_transition c.tree (mutator_of c t) a m c.objects c.printed))
-        by_calls _ _ (plainly flag r owner method finds) e there = (tt, plain_is c.tree (mutator_of c t) m c.objects c.statics c.printed a x top nonzero flag r owner method finds e)
-        by_calls _ _ (virtually k name signature owner method finds) e there = (tt, virtual_is c.tree (mutator_of c t) m c.objects c.statics c.printed a x top nonzero k name signature owner method finds e (there tt))
+        by_calls _ _ (by_call flag r owner method finds) e there = (tt, plain_is c.tree (mutator_of c t) m c.objects c.statics c.printed a x top nonzero flag r owner method finds e)
+        by_calls _ _ (by_virtual_call k name signature owner method finds) e there = (tt, virtual_is c.tree (mutator_of c t) m c.objects c.statics c.printed a x top nonzero k name signature owner method finds e (there tt))
         by_calls _ _ (nothing i o none' e') e there = none_is_some a (sym none' ∙ e)
 
     -- a monitor, where it enters

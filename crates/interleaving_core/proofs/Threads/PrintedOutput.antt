@@ -57,7 +57,7 @@ use Rattle.simulation.specs.MachineStates.{MachineState, mutator_of}
 use Rattle.simulation.specs.Transitions.{IsStatusTransition, IsThreadTransition, IsTransition}
 use Rattle.interleaving_core.specs.Prints.{next_print, print_by, print_in, status_print}
 use Rattle.interleaving_core.specs.Waits.{called_member}
-use Rattle.interleaving_core.proofs.Threads.AwaitedObjects.{Calls, plainly, virtually, nothing, action_is, calls_of}
+use Rattle.interleaving_core.proofs.Threads.AwaitedObjects.{Calls, by_call, by_virtual_call, nothing, action_is, calls_of}
 
 -- ---- the method that an object chooses acts only where the method that was called does
 
@@ -236,9 +236,9 @@ module _ (tree : Tree) (mutator : Mutator) (m : Frames) (o : Objects) (ss : List
       (by_calls done.at.line.instruction done.operation (calls_of tree (lines_of done.at.found.1) done.at.line.instruction done.operation done.at.refines) done.is)
     where
       by_calls : (i : Instruction) (op : Operation) → Calls tree i op → Some answer ≡ operation_transition tree mutator op m o ss c → Within (print_of (called_action tree i))
-      by_calls _ _ (plainly flag r owner method finds) e =
+      by_calls _ _ (by_call flag r owner method finds) e =
           subst (λ k. Within (print_of (action_found k))) (sym finds.finds) (called flag owner method (finds.declared_in, finds.found) finds.has_id e)
-      by_calls _ _ (virtually d name signature owner method finds) e =
+      by_calls _ _ (by_virtual_call d name signature owner method finds) e =
           subst (λ k. Within (print_of (action_found k))) (sym finds.finds)
           (called_virtually owner method (finds.declared_in, finds.found) (found_is_declared tree true (virtual_reference d name signature) finds.declared_in finds.found finds.finds) finds.has_id e)
       by_calls _ _ (nothing i op none none') e = same_within (quiet op none' e) (print_of (called_action tree i))

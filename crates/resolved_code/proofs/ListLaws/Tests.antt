@@ -17,9 +17,9 @@ pub not_not : (b : Bool) → not (not b) ≡ b
 not_not true = refl
 not_not false = refl
 
-pub and_turned : (a b : Bool) → a && b ≡ b && a
-and_turned true b = sym (and_true b)
-and_turned false b = sym (and_false b)
+pub and_comm : (a b : Bool) → a && b ≡ b && a
+and_comm true b = sym (and_true b)
+and_comm false b = sym (and_false b)
 
 pub third_decides : (a b c : Bool) → a ≡ true → b ≡ false → a && not b && c ≡ c
 third_decides a b c h k = ap (λ x. x && not b && c) h ∙ ap (λ x. not x && c) k

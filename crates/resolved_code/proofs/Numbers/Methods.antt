@@ -13,7 +13,7 @@ use Rattle.name_tables.specs.Sameness.{MethodIdentity, same_identity, identity_o
 use Rattle.name_tables.specs.SamenessLaws.{identity_equivalence}
 use Rattle.name_tables.specs.Numbers.{declarations, class_number, method_found}
 use Rattle.name_tables.proofs.NumberLaws.{HasId, has_id, find_congr, declared_at_none}
-use Rattle.resolved_code.specs.Found.{is_virtual_found}
+use Rattle.resolved_code.specs.VirtualSlots.{is_virtual_found}
 
 module _ (tree : Tree) where
   -- what a class's number finds

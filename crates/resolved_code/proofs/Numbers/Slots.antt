@@ -17,7 +17,7 @@ use Rattle.name_tables.specs.Sameness.{MethodIdentity, identity_of}
 use Rattle.name_tables.specs.Numbers.{declarations, class_number, chain_numbers, method_found}
 use Rattle.name_tables.proofs.NumberLaws.{HasId, has_id, declared_at_none}
 use Rattle.resolved_code.proofs.Numbers.Classes.{number_equal}
-use Rattle.resolved_code.specs.Found.{slot_filled_at, slot_over, slot_by_id, open_over, open_by_id, is_left_open, class_leaves_open, concrete_by_id}
+use Rattle.resolved_code.specs.VirtualSlots.{slot_filled_at, slot_over, slot_by_id, open_over, open_by_id, is_left_open, class_leaves_open, concrete_by_id}
 use Rattle.resolved_code.proofs.Numbers.Methods.{found_by_number, nothing_found}
 
 module _ (tree : Tree) where

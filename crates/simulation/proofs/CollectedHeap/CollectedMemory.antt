@@ -39,14 +39,14 @@ use Rattle.interpreter.specs.object_memory.declared.values.Value.TheVariants.{Re
 use Rattle.interpreter.specs.object_memory.Spaces.{forward, is_old}
 use Rattle.interpreter.specs.object_memory.Values.{value_word}
 use Rattle.interpreter.specs.instructions.barriers.Barriers.{compares_forwards, forward_value, is_other_alike, is_storable, is_value_there, is_word_storable, reaches_both, stored_int, stored_monitor, stored_value}
-use Rattle.interpreter.proofs.object_memory.TwoBlocks.{either, no_literal}
+use Rattle.interpreter.proofs.object_memory.TwoSpaces.TwoBlocks.{either, no_literal}
 use Rattle.collector.specs.References.{holds_reference, is_reference_value}
 use Rattle.collector.specs.Phases.{is_live, is_of_cycle}
 use Rattle.collector.proofs.ThreadReferences.AfterStores.{marked_first}
-use Rattle.collector.proofs.Copying.VisibleCopies.{has_words}
+use Rattle.collector.proofs.Copies.VisibleCopies.{has_words}
 use Rattle.collector.proofs.PhaseChanges.StaticFlips.{set_here_or_there}
 use Rattle.collector.proofs.HeapStores.StoredCells.{change_for}
-use Rattle.collector.proofs.Marking.MarksOfStores.{IsButMarked, value_mark_leaves, value_weakens}
+use Rattle.collector.proofs.Marks.MarksOfStores.{IsButMarked, value_mark_leaves, value_weakens}
 use Rattle.collector.proofs.HeapStores.StoreSoundness.{IsHeldObject, IsHeldValue, monitor_keeps, object_monitor_is, value_for_new, value_keeps, word_keeps}
 use Rattle.collector.proofs.HeapStores.ReachedCopies.{changed_by, close_is_beside}
 use Rattle.collector.proofs.Addresses.TagChanges.{monitor_keeps_tags, slot_keeps_tags}

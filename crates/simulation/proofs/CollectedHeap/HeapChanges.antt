@@ -18,7 +18,7 @@ use Rattle.interpreter.specs.object_memory.Cells.{Cell, cell_in, change_in, null
 use Rattle.interpreter.specs.object_memory.Objects.{Objects}
 use Rattle.interpreter.specs.object_memory.Spaces.{Spaces, forward, is_old, is_white, marked_if, other_of, set_mark}
 use Rattle.interpreter.specs.instructions.barriers.Barriers.{with_marked, forward_value, is_static_storable, stored_static}
-use Rattle.interpreter.proofs.object_memory.TwoBlocks.{after_in, forward-change, forward_null}
+use Rattle.interpreter.proofs.object_memory.TwoSpaces.TwoBlocks.{after_in, forward-change, forward_null}
 use Rattle.collector.specs.phase_handshake.Handshakes.{Handshakes, IsClose}
 use Rattle.collector.specs.phase_handshake.declared.posts.Seat.{Seat}
 use Rattle.collector.specs.References.{ValuePasses, is_permanent}
@@ -29,7 +29,7 @@ use Rattle.collector.specs.declared.progress.Progress.{Progress}
 use Rattle.collector.proofs.ThreadReferences.AfterStores.{alike_not_begun, marked_first}
 use Rattle.collector.proofs.ThreadReferences.MarkingPhases.{static_loads}
 use Rattle.collector.proofs.HeapStores.StoredCells.{static_literals}
-use Rattle.collector.proofs.Marking.MarksOfStores.{Grows, IsButMarked, alike_grows, grows_then, live_grows, passes_then, value_mark_grows, value_mark_leaves, value_mark_not_begun, value_mark_same, value_mark_sound, value_weakens}
+use Rattle.collector.proofs.Marks.MarksOfStores.{Grows, IsButMarked, alike_grows, grows_then, live_grows, passes_then, value_mark_grows, value_mark_leaves, value_mark_not_begun, value_mark_same, value_mark_sound, value_weakens}
 use Rattle.collector.proofs.HeapStores.ReachedCopies.{close_is_beside, IsBeside as IsBesidePhase}
 use Rattle.collector.proofs.Addresses.TagChanges.{AreAlike, alike_itself, live_stays, passes_still}
 use Rattle.collector.proofs.Addresses.Disjunctions.{or_more}
@@ -41,7 +41,7 @@ use Rattle.simulation.proofs.Memory.MemoryModels.{AreStatics, IsBeside}
 use Rattle.simulation.proofs.CollectedHeap.RewrittenCells.{agree_from}
 use Rattle.simulation.proofs.CollectedHeap.TwoCopies.{copy_stays, twins_stay, forward_named}
 use Rattle.simulation.proofs.CollectedHeap.VisibleNames.{FitsCollected, first_hold, means, named_passes, permanent_passes, own_extends, passes_is_held}
-use Rattle.collector.proofs.Copying.VisibleCopies.{has_words}
+use Rattle.collector.proofs.Copies.VisibleCopies.{has_words}
 use Rattle.collector.proofs.ThreadReferences.LiveValues.{held_by}
 use Rattle.collector.proofs.PhaseChanges.StaticFlips.{set_here_or_there}
 use Rattle.collector.proofs.HeapStores.StaticStores.{static_fits, value_for_static}

@@ -14,7 +14,7 @@ use Rattle.interpreter.specs.object_memory.declared.values.Value.{Value}
 use Rattle.interpreter.specs.object_memory.Objects.{Objects, with_literal_monitor}
 use Rattle.interpreter.specs.object_memory.Spaces.{AreSpaces}
 use Rattle.interpreter.specs.instructions.barriers.Barriers.{stored_monitor}
-use Rattle.interpreter.proofs.object_memory.TwoBlocks.{new_is_cell, no_literal, old_is_cell}
+use Rattle.interpreter.proofs.object_memory.TwoSpaces.TwoBlocks.{new_is_cell, no_literal, old_is_cell}
 use Rattle.collector.specs.phase_handshake.Handshakes.{Handshakes}
 use Rattle.collector.specs.phase_handshake.declared.posts.Seat.{Seat}
 use Rattle.collector.specs.declared.progress.Progress.{Progress}

@@ -18,7 +18,7 @@ use Rattle.interpreter.specs.object_memory.Objects.{Objects, object_cell}
 use Rattle.interpreter.specs.object_memory.Spaces.{Spaces, room_for, birth_space_of, room_at}
 use Rattle.interpreter.specs.object_memory.Values.{value_word}
 use Rattle.interpreter.specs.instructions.barriers.Barriers.{object_born, stored_int, stored_monitor, stored_static, stored_value, can_bear}
-use Rattle.interpreter.proofs.object_memory.TwoBlocks.{slot_keeps}
+use Rattle.interpreter.proofs.object_memory.TwoSpaces.TwoBlocks.{slot_keeps}
 use Rattle.reference_machine.specs.TypedStates.{IsTyped}
 use Rattle.collector.specs.Phases.{is_before_copies}
 use Rattle.simulation.specs.Refines.{IsCell, IsOfContents, Names}

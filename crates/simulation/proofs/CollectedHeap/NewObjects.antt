@@ -19,7 +19,7 @@ use Rattle.interpreter.specs.object_memory.Cells.{Cell, cell_in, literal}
 use Rattle.interpreter.specs.object_memory.Objects.{Objects, object_cell}
 use Rattle.interpreter.specs.object_memory.Spaces.{Spaces, address_at, birth_space_of, give_birth, forward, other_of, room_for}
 use Rattle.interpreter.specs.instructions.barriers.Barriers.{can_bear, object_born}
-use Rattle.interpreter.proofs.object_memory.TwoBlocks.{new_is_cell, no_literal, old_is_cell, are_distinct}
+use Rattle.interpreter.proofs.object_memory.TwoSpaces.TwoBlocks.{new_is_cell, no_literal, old_is_cell, are_distinct}
 use Rattle.collector.specs.phase_handshake.Handshakes.{Handshakes, IsClose}
 use Rattle.collector.specs.phase_handshake.declared.posts.Seat.{Seat}
 use Rattle.collector.specs.References.{is_permanent}
@@ -28,17 +28,17 @@ use Rattle.collector.specs.Soundness.{IsSoundHeap}
 use Rattle.collector.specs.Holding.{AnyLive, Hold, IsOnTime, MarkedOnly, NewOnly, hold_of, passes, static_hold_of, static_may_hold}
 use Rattle.collector.specs.declared.progress.Progress.{Progress}
 use Rattle.collector.proofs.Births.NewCells.{IsBirth as IsBornCell, IsEmpty, bears_two}
-use Rattle.collector.proofs.Copying.VisibleCopies.{has_words}
+use Rattle.collector.proofs.Copies.VisibleCopies.{has_words}
 use Rattle.collector.proofs.Births.BirthSoundness.{IsNear, birth_forwards, birth_held, birth_is, birth_marks_nothing, birth_may_be_held, birth_on_time, birth_sound, birth_tests, can_bear_near, near_of_close, refused}
 use Rattle.collector.proofs.ThreadReferences.LiveValues.{held_is_live}
-use Rattle.collector.proofs.Marking.MarksOfStores.{Grows, grows_then, live_grows, passes_then, value_weakens}
+use Rattle.collector.proofs.Marks.MarksOfStores.{Grows, grows_then, live_grows, passes_then, value_weakens}
 use Rattle.collector.proofs.Addresses.Disjunctions.{either_true, or_first, or_second}
 use Rattle.simulation.specs.Refines.{AreTwins, HasOneName, IsBornAt, IsCell, IsHeap, IsMonitor, IsOfContents, IsValue, Names}
 use Rattle.simulation.proofs.ListLaws.AgreeingLists.{agree_weaken}
 use Rattle.simulation.proofs.Representation.MoreNames.{cell_extends, value_extends}
 use Rattle.simulation.proofs.RetainedWords.CycleNames.{marked_before_birth, new_before_birth}
 use Rattle.simulation.proofs.Memory.MemoryModels.{IsBirth}
-use Rattle.simulation.proofs.CollectedHeap.TwoCopies.{AreOldAndNew, copies_apart, copy_stays, forward_either, new_forward_itself, noted, noted_twin, old_forward, same_forward, twins_either, twins_forward, twins_late, twins_stay, twins_turned, words_not_last, copy_is_new, words_are_live}
+use Rattle.simulation.proofs.CollectedHeap.TwoCopies.{AreOldAndNew, copies_apart, copy_stays, forward_either, new_forward_itself, noted, noted_twin, old_forward, same_forward, twins_either, twins_forward, twins_late, twins_stay, twins_sym, words_not_last, copy_is_new, words_are_live}
 use Rattle.simulation.proofs.CollectedHeap.VisibleNames.{address_is, FitsCollected, cut_is, cut_names, first_hold, is_cut_name, named_passes, named_whole}
 use Rattle.simulation.proofs.CollectedHeap.ObjectChanges.{born_number}
 use Rattle.simulation.proofs.Memory.NamedAddresses.{literal_beside}
@@ -296,7 +296,7 @@ module _ (tree : Tree) (words : ℕ) (h : Handshakes) (p : Progress) (seat : Sea
     newly_one x y (inl own) (inl own') = inl (own ∙ sym own')
     newly_one x y (inr other) (inr other') = inl (other.0 ∙ sym other'.0)
     newly_one x y (inl own) (inr other) = own_other x y own other.0
-    newly_one x y (inr other) (inl own) = elim (own_other y x own other.0) [ inl same ↦ inl (sym same) | inr twins ↦ inr (twins_turned o'.spaces y x twins) ]
+    newly_one x y (inr other) (inl own) = elim (own_other y x own other.0) [ inl same ↦ inl (sym same) | inr twins ↦ inr (twins_sym o'.spaces y x twins) ]
 
     names_then : HasOneName whole o'.spaces
     names_then = record {

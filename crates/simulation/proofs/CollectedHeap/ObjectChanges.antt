@@ -12,14 +12,14 @@ use Rattle.interpreter.specs.object_memory.declared.values.Value.{Value}
 use Rattle.interpreter.specs.object_memory.Cells.{Cell, cell_in}
 use Rattle.interpreter.specs.object_memory.Objects.{Objects, object_cell}
 use Rattle.interpreter.specs.object_memory.Spaces.{Spaces, is_old, other_of}
-use Rattle.interpreter.proofs.object_memory.TwoBlocks.{new_is_cell, old_is_cell}
+use Rattle.interpreter.proofs.object_memory.TwoSpaces.TwoBlocks.{new_is_cell, old_is_cell}
 use Rattle.collector.specs.phase_handshake.Handshakes.{Handshakes}
 use Rattle.collector.specs.phase_handshake.declared.posts.Seat.{Seat}
 use Rattle.collector.specs.Phases.{is_live}
 use Rattle.collector.specs.Soundness.{IsSoundHeap}
 use Rattle.collector.specs.declared.progress.Progress.{Progress}
 use Rattle.collector.proofs.ThreadReferences.AfterStores.{changed_alike}
-use Rattle.collector.proofs.Copying.VisibleCopies.{has_words}
+use Rattle.collector.proofs.Copies.VisibleCopies.{has_words}
 use Rattle.collector.proofs.HeapStores.StoredCells.{IsReached, change_for, reached_changes, unreached_stays}
 use Rattle.collector.proofs.HeapStores.ReachedCopies.{changed_by}
 use Rattle.collector.proofs.Addresses.TagChanges.{AreAlike, KeepsTags}

@@ -15,12 +15,12 @@ use Rattle.interpreter.specs.object_memory.declared.values.Value.TheVariants.{Re
 use Rattle.interpreter.specs.object_memory.Cells.{Cell, cell_in, null}
 use Rattle.interpreter.specs.object_memory.Spaces.{AreSpaces, Spaces, cell_at, forward, forward_word, other_of}
 use Rattle.interpreter.specs.object_memory.Values.{value_word}
-use Rattle.interpreter.proofs.object_memory.TwoBlocks.{apart, either, forward_copy, forward_new, forward_null, new_is_cell, null_no_cell, old_is_cell}
+use Rattle.interpreter.proofs.object_memory.TwoSpaces.TwoBlocks.{apart, either, forward_copy, forward_new, forward_null, new_is_cell, null_no_cell, old_is_cell}
 use Rattle.collector.specs.References.{holds_reference, is_permanent, reference_in}
 use Rattle.collector.specs.Phases.{is_live, is_new, is_new_address, is_read}
 use Rattle.collector.specs.Soundness.{IsSoundHeap}
 use Rattle.collector.specs.declared.progress.Progress.{Progress}
-use Rattle.collector.proofs.Copying.VisibleCopies.{ShowSame, has_words, old_shows, one_old, word_shown}
+use Rattle.collector.proofs.Copies.VisibleCopies.{ShowSame, has_words, old_shows, one_old, word_shown}
 use Rattle.collector.proofs.ThreadReferences.LiveValues.{reference_again}
 use Rattle.collector.proofs.Addresses.Disjunctions.{or_second}
 use Rattle.collector.proofs.Addresses.Tests.{is_new_live, live_is_late, live_is_read, new_is, new_is_live}
@@ -186,9 +186,9 @@ module _ (tree : Tree) (posted_phase : Phase) (has_round : Bool) (words : ℕ) (
   ]
 
 -- twins in the other order
-pub twins_turned : (m : Spaces) (a b : ℕ) → AreTwins m a b → AreTwins m b a
-twins_turned m a b (inl other) = inr other
-twins_turned m a b (inr other) = inl other
+pub twins_sym : (m : Spaces) (a b : ℕ) → AreTwins m a b → AreTwins m b a
+twins_sym m a b (inl other) = inr other
+twins_sym m a b (inr other) = inl other
 
 -- ---- what both show
 

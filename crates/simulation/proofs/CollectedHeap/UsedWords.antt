@@ -17,7 +17,7 @@ use Rattle.interpreter.specs.object_memory.Values.{value_word}
 use Rattle.interpreter.specs.instructions.barriers.Barriers.{forward_value, object_born, reaches_both, stored_int, stored_monitor, stored_static, stored_value, with_both, with_both_monitors, with_both_slots, with_marked}
 use Rattle.interpreter.proofs.object_memory.Blocks.{used_in, used_last}
 use Rattle.interpreter.proofs.object_memory.Rooms.{size-empty}
-use Rattle.interpreter.proofs.object_memory.TwoBlocks.{slot_keeps}
+use Rattle.interpreter.proofs.object_memory.TwoSpaces.TwoBlocks.{slot_keeps}
 use Rattle.collector.specs.Marking.{with_all_marked}
 use Rattle.collector.proofs.Births.BirthSoundness.{granted}
 use Rattle.collector.proofs.HeapStores.ReachedCopies.{changed_by}

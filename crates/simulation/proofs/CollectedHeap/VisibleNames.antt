@@ -26,7 +26,7 @@ use Rattle.collector.specs.Soundness.{IsSoundHeap}
 use Rattle.collector.specs.Holding.{AnyLive, Hold, IsOnTime, MarkedOnly, NewOnly, hold_of, passes, static_may_hold, is_flipping}
 use Rattle.collector.specs.declared.progress.Progress.{Progress}
 use Rattle.collector.proofs.ThreadReferences.LiveValues.{held_by, may_hold_is_held, reference_again, held_is_new, live_is_there}
-use Rattle.collector.proofs.Marking.MarksOfStores.{Grows, grows_itself}
+use Rattle.collector.proofs.Marks.MarksOfStores.{Grows, grows_itself}
 use Rattle.collector.proofs.Addresses.Disjunctions.{or_first, or_second}
 use Rattle.collector.proofs.Addresses.Tests.{HoldMeans, hold_means, loads_may_be_held, new_has_cell}
 use Rattle.simulation.specs.Refines.{Extends, IsBornAt, IsHeap, IsWord, Names, AreTwins}
@@ -41,8 +41,8 @@ use Rattle.interpreter.specs.cil_model.declared.phases.Phase.TheVariants.{Copy, 
 use Rattle.interpreter.proofs.cil_model.SameLaws.{never, same_text_equal, same_text_itself}
 use Rattle.interpreter.specs.reference_machine.Cycles.{phase_after}
 use Rattle.interpreter.specs.instructions.barriers.Barriers.{are_comparable, are_same, compares_forwards}
-use Rattle.interpreter.proofs.object_memory.TwoBlocks.{apart, forward_null, old_is_cell}
-use Rattle.collector.proofs.Copying.VisibleCopies.{has_words}
+use Rattle.interpreter.proofs.object_memory.TwoSpaces.TwoBlocks.{apart, forward_null, old_is_cell}
+use Rattle.collector.proofs.Copies.VisibleCopies.{has_words}
 use Rattle.collector.proofs.HeapStores.ReachedCopies.{IsBeside, close_is_beside}
 
 -- ---- what fits

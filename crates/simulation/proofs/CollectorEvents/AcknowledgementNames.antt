@@ -14,7 +14,7 @@ use Rattle.interpreter.specs.object_memory.declared.values.Value.TheVariants.{Re
 use Rattle.interpreter.specs.object_memory.Cells.{Cell, cell_in, null}
 use Rattle.interpreter.specs.object_memory.Objects.{Objects}
 use Rattle.interpreter.specs.object_memory.Spaces.{AreSpaces, Spaces, forward, other_of}
-use Rattle.interpreter.proofs.object_memory.TwoBlocks.{forward_null}
+use Rattle.interpreter.proofs.object_memory.TwoSpaces.TwoBlocks.{forward_null}
 use Rattle.interpreter.specs.threads_monitors.Frames.{Frame, Frames}
 use Rattle.interpreter.specs.threads_monitors.Roots.{frame_with_references, with_reference, with_references, roots}
 use Rattle.interpreter.specs.threads_monitors.declared.threads.ThreadStatus.{ThreadStatus}
@@ -24,9 +24,9 @@ use Rattle.interpreter.proofs.cil_model.Lists.{none_is_some, set_is_there}
 use Rattle.collector.specs.Marking.{with_all_marked}
 use Rattle.collector.specs.phase_handshake.Handshakes.{Handshakes, is_phase, IsClose, is_open_to, phase_number, seat_after, seat_of}
 use Rattle.collector.proofs.phase_handshake.Closeness.{same_phase, answered_close}
-use Rattle.collector.proofs.Copying.VisibleCopies.{has_words, forward_is_new, has_copies}
-use Rattle.collector.proofs.Marking.MarkChanges.{AreDarker, IsDarker, stays_there, AreDarker-same}
-use Rattle.collector.proofs.Marking.MarkedHeaps.{AreDarker-with_all_marked, HasNotBegun-with_all_marked, IsSoundHeap-with_all_marked, with_all_marked-noted, with_all_marked-pass}
+use Rattle.collector.proofs.Copies.VisibleCopies.{has_words, forward_is_new, has_copies}
+use Rattle.collector.proofs.Marks.MarkChanges.{AreDarker, IsDarker, stays_there, AreDarker-same}
+use Rattle.collector.proofs.Marks.MarkedHeaps.{AreDarker-with_all_marked, HasNotBegun-with_all_marked, IsSoundHeap-with_all_marked, with_all_marked-noted, with_all_marked-pass}
 use Rattle.simulation.specs.Agreement.{Agree}
 use Rattle.simulation.specs.Collecting.{status_flipped, thread_flipped, with_acknowledgement, with_flipped, with_thread_marked}
 use Rattle.simulation.specs.MachineStates.{MachineState}

@@ -30,14 +30,14 @@ use Rattle.simulation.specs.MachineStates.{MachineState}
 use Rattle.simulation.specs.Sound.{IsSound}
 use Rattle.simulation.specs.Collecting.{clear_object, collect, flip_values, mark_object, next_posted, initial_words, round_posted, rounds, work, do_work}
 use Rattle.simulation.specs.Refines.{AreTwins, IsCell, IsHeap, IsMonitor, IsOfContents, IsValue, Names, RefinesUnder}
-use Rattle.interpreter.proofs.object_memory.TwoBlocks.{either, new_is_cell, old_is_cell}
+use Rattle.interpreter.proofs.object_memory.TwoSpaces.TwoBlocks.{either, new_is_cell, old_is_cell}
 use Rattle.collector.proofs.Addresses.Tests.{is_new_live, live_is_late, live_is_read, never, new_has_cell, none_is_new}
-use Rattle.collector.proofs.Marking.MarkChanges.{AreDarker, AreDarker-same, stays_there}
-use Rattle.collector.proofs.Marking.MarkedHeaps.{AreDarker-with_all_marked, with_all_marked-literals}
-use Rattle.collector.proofs.Marking.MarkWork.{AreDarker-marked_on, marked_on-literals}
-use Rattle.collector.proofs.Copying.AllocateWork.{looked_sound}
-use Rattle.collector.proofs.Copying.UnchangedReads.{copied_else, copied_live, copied_old, looked_else, looked_live, looked_new, looked_old}
-use Rattle.collector.proofs.Copying.CopyWork.{copied_sound}
+use Rattle.collector.proofs.Marks.MarkChanges.{AreDarker, AreDarker-same, stays_there}
+use Rattle.collector.proofs.Marks.MarkedHeaps.{AreDarker-with_all_marked, with_all_marked-literals}
+use Rattle.collector.proofs.Marks.MarkWork.{AreDarker-marked_on, marked_on-literals}
+use Rattle.collector.proofs.Copies.AllocateWork.{looked_sound}
+use Rattle.collector.proofs.Copies.UnchangedReads.{copied_else, copied_live, copied_old, looked_else, looked_live, looked_new, looked_old}
+use Rattle.collector.proofs.Copies.CopyWork.{copied_sound}
 use Rattle.collector.proofs.PhaseChanges.ReclaimWork.{ShowsSame, cleared_shows, cleared_sound, cleared_stays, retired_cell, retired_sound}
 use Rattle.simulation.proofs.CollectorEvents.Soundness.{posting}
 use Rattle.simulation.proofs.Representation.NormalNames.{IsNormal, normal_value, other_cell}

@@ -30,16 +30,16 @@ use Rattle.simulation.specs.Collecting.{clear_object, collect, cycle_ended, cycl
 use Rattle.interpreter.proofs.cil_model.Lists.{none_is_some}
 use Rattle.collector.proofs.phase_handshake.Closeness.{cycle_close, passes_at, phase_close, round_close, same_phase, seat_here, seat_there}
 use Rattle.collector.proofs.Addresses.Tests.{marked_cell, may_hold_live, never, new_cell, old_cell, value_weakens}
-use Rattle.collector.proofs.Marking.MarkChanges.{AreDarker-same}
-use Rattle.collector.proofs.Marking.MarkedHeaps.{AreDarker-with_all_marked, with_all_marked-noted}
-use Rattle.collector.proofs.Marking.MarkWork.{AreDarker-marked_on, IsSoundHeap-marked_on, IsSoundHeap-statics_scanned, marked_on-noted, marked_on-progress, marked_on-works, statics_scanned-pass}
+use Rattle.collector.proofs.Marks.MarkChanges.{AreDarker-same}
+use Rattle.collector.proofs.Marks.MarkedHeaps.{AreDarker-with_all_marked, with_all_marked-noted}
+use Rattle.collector.proofs.Marks.MarkWork.{AreDarker-marked_on, IsSoundHeap-marked_on, IsSoundHeap-statics_scanned, marked_on-noted, marked_on-progress, marked_on-works, statics_scanned-pass}
 use Rattle.collector.proofs.PhaseChanges.Rounds.{HasNotBegun-opened, HasNotBegun-posted, IsSoundHeap-closed, IsSoundHeap-opened, IsSoundHeap-round}
 use Rattle.collector.proofs.ThreadReferences.MarkingPhases.{allocate_held, allocate_held-static, closed_held, closed_held-static, may_hold_any, opened_held, round_held, stays_held, stays_held-static}
 use Rattle.collector.proofs.Addresses.GrowingBlocks.{TestsStay, passes_stays}
 use Rattle.collector.proofs.PhaseChanges.StaticFlips.{StaticsPass, all_flipped, flipped_sound, flipped_statics_pass, statics_stay, statics_to_heap_flip, statics_to_idle, statics_to_reclaim}
-use Rattle.collector.proofs.Copying.AllocateWork.{copy_posted, looked_sound}
-use Rattle.collector.proofs.Copying.UnchangedReads.{copied_new, copied_old, looked_new, looked_old}
-use Rattle.collector.proofs.Copying.CopyWork.{copied_sound, pre_flip_live, pre_flip_posted}
+use Rattle.collector.proofs.Copies.AllocateWork.{copy_posted, looked_sound}
+use Rattle.collector.proofs.Copies.UnchangedReads.{copied_new, copied_old, looked_new, looked_old}
+use Rattle.collector.proofs.Copies.CopyWork.{copied_sound, pre_flip_live, pre_flip_posted}
 use Rattle.collector.proofs.PhaseChanges.FlipPhases.{flip_posted}
 use Rattle.collector.proofs.PhaseChanges.ReclaimWork.{cleared_sound, cleared_tests, retired_sound}
 use Rattle.collector.proofs.ThreadReferences.FlipPhases.{end_keeps_held, flip_keeps_held}

@@ -32,8 +32,8 @@ use Rattle.collector.specs.declared.progress.Stage.{Stage}
 use Rattle.collector.specs.declared.progress.Stage.TheVariants.{Begins, Loaded, Stored}
 use Rattle.collector.specs.declared.progress.TheConstants.{MOST_FAILED_CHECKS}
 use Rattle.collector.specs.phase_handshake.Handshakes.{all_answered, all_seen}
-use Rattle.collector.proofs.Copying.CopyWork.{IsStep, copied_cases, none_stored, one_stored}
-use Rattle.collector.proofs.Copying.CopiedWords.{loaded_checks, loaded_stage}
+use Rattle.collector.proofs.Copies.CopyWork.{IsStep, copied_cases, none_stored, one_stored}
+use Rattle.collector.proofs.Copies.CopiedWords.{loaded_checks, loaded_stage}
 use Rattle.collector.proofs.BlockWalks.FirstCells.{found_is}
 use Rattle.simulation.specs.Collecting.{clear_object, collect, cycle_opened, flip_values, mark_object, next_posted, initial_words, round_posted, rounds, work, do_work}
 use Rattle.simulation.specs.MachineStates.{MachineState}

@@ -12,7 +12,7 @@ use Rattle.interpreter.specs.object_memory.Spaces.{Spaces, give_birth, change_at
 use Rattle.interpreter.specs.object_memory.declared.birth_spaces.BirthSpace.TheVariants.{InOld, Listed}
 use Rattle.interpreter.proofs.object_memory.Blocks.{kept_in, last_in, own_in, sum_in, sum_last, unchanged_in, used_in, used_last}
 use Rattle.interpreter.proofs.object_memory.Rooms.{size-empty}
-use Rattle.interpreter.proofs.object_memory.TwoBlocks.{after_in, before_in, own, still}
+use Rattle.interpreter.proofs.object_memory.TwoSpaces.TwoBlocks.{after_in, before_in, own, still}
 
 -- ---- the measure
 

@@ -19,7 +19,7 @@ use Rattle.interpreter.specs.object_memory.Objects.{Objects, object_cell}
 use Rattle.interpreter.specs.object_memory.Spaces.{Spaces, first_of, forward, forward_word, other_of}
 use Rattle.interpreter.specs.object_memory.Values.{value_word}
 use Rattle.interpreter.specs.instructions.barriers.Barriers.{forward_value}
-use Rattle.interpreter.proofs.object_memory.TwoBlocks.{apart, forward_bare, forward_copy, forward_else, forward_null, new_is_cell, no_literal, old_is_cell, are_distinct}
+use Rattle.interpreter.proofs.object_memory.TwoSpaces.TwoBlocks.{apart, forward_bare, forward_copy, forward_else, forward_null, new_is_cell, no_literal, old_is_cell, are_distinct}
 use Rattle.interpreter.proofs.cil_model.Lists.{none_is_some}
 use Rattle.interpreter.proofs.cil_model.SameLaws.{never}
 use Rattle.reference_machine.specs.TypedStates.{IsTyped}
@@ -28,7 +28,7 @@ use Rattle.collector.specs.Phases.{is_live, is_live_object, is_new}
 use Rattle.collector.specs.Soundness.{IsSoundHeap}
 use Rattle.collector.specs.declared.progress.Progress.{Progress}
 use Rattle.collector.proofs.Addresses.Tests.{live_is_late, live_is_read, live_loads, new_is, new_is_live}
-use Rattle.collector.proofs.Copying.VisibleCopies.{ShowSame, has_words, old_shows}
+use Rattle.collector.proofs.Copies.VisibleCopies.{ShowSame, has_words, old_shows}
 use Rattle.collector.proofs.ThreadReferences.LiveValues.{reference_again}
 use Rattle.simulation.specs.Refines.{Names, AreTwins, HasOneName, IsValue, int32, int64, native, null_reference, reference, IsWord, IsCell, IsBornAt, IsHeap, IsLiteralAt, IsMonitor, IsOfContents}
 use Rattle.simulation.proofs.CollectedHeap.TwoCopies.{late_of, words_are_live}

@@ -35,7 +35,7 @@ use Rattle.interpreter.specs.threads_monitors.declared.threads.Thread.{Thread}
 use Rattle.interpreter.proofs.cil_model.Lists.{none_is_some}
 use Rattle.interpreter.proofs.object_memory.Blocks.{used_in}
 use Rattle.interpreter.proofs.object_memory.Rooms.{HasShellRoom-shell}
-use Rattle.interpreter.proofs.object_memory.TwoBlocks.{slot_keeps}
+use Rattle.interpreter.proofs.object_memory.TwoSpaces.TwoBlocks.{slot_keeps}
 use Rattle.collector.specs.Copying.{address_after_cell, copied_at, copied_on, looked_on, object_copied, shell_made, shell_step, word_step, word_stored, after_word, before_word}
 use Rattle.collector.specs.Attempts.{with_loaded}
 use Rattle.collector.specs.Flips.{cleared_at, cleared_on, flipped_on}

@@ -48,7 +48,7 @@ use Rattle.simulation.proofs.RetainedWords.OpenCycleStates.{IsRetainedBy, acknow
 use Rattle.simulation.proofs.Runs.EventByEvent.{OwnEffect, Continues, IsAt, continues, walk}
 use Rattle.interpreter.proofs.cil_model.Lists.{none_is_some}
 use Rattle.interpreter.specs.object_memory.declared.addresses.Addr.{Addr}
-use Rattle.interpreter.proofs.object_memory.TwoBlocks.{new_is_cell, no_literal, not_old}
+use Rattle.interpreter.proofs.object_memory.TwoSpaces.TwoBlocks.{new_is_cell, no_literal, not_old}
 use Rattle.collector.proofs.Addresses.Tests.{new_is}
 use Rattle.simulation.proofs.Memory.CellSizes.{cell_size}
 

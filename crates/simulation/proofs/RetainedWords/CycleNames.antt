@@ -20,15 +20,15 @@ use Rattle.interpreter.specs.instructions.barriers.Barriers.{object_born, with_m
 use Rattle.interpreter.specs.reference_machine.Cycles.{phase_after}
 use Rattle.interpreter.proofs.object_memory.Births.{born-kept_old, born-old_last, born-was_new, born-was_old, forward-born, new_part, old_part}
 use Rattle.interpreter.proofs.object_memory.Blocks.{next_in}
-use Rattle.interpreter.proofs.object_memory.TwoBlocks.{after_in, own as changed, still as unchanged}
+use Rattle.interpreter.proofs.object_memory.TwoSpaces.TwoBlocks.{after_in, own as changed, still as unchanged}
 use Rattle.interpreter.proofs.cil_model.Lists.{none_is_some}
 use Rattle.collector.specs.Holding.{AnyLive, Hold, MarkedOnly, NewOnly, passes}
 use Rattle.collector.specs.Phases.{is_live, is_marked_cell, is_marked_old, is_new}
 use Rattle.collector.specs.References.{Test, is_permanent}
 use Rattle.collector.proofs.ThreadReferences.AfterStores.{marked_first}
-use Rattle.collector.proofs.Marking.MarkChanges.{AreDarker}
+use Rattle.collector.proofs.Marks.MarkChanges.{AreDarker}
 use Rattle.collector.proofs.Births.BirthSoundness.{IsNear, granted}
-use Rattle.collector.proofs.Marking.MarkedHeaps.{AreDarker-with_marked}
+use Rattle.collector.proofs.Marks.MarkedHeaps.{AreDarker-with_marked}
 use Rattle.collector.proofs.Addresses.TagChanges.{AreAlike}
 use Rattle.collector.proofs.Addresses.Tests.{HoldMeans, is_new_live, mark_is, marked_cell, marked_is_old, never, new_cell, new_is, old_is}
 use Rattle.simulation.specs.Refines.{Names}

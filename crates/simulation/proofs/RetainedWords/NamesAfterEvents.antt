@@ -23,7 +23,7 @@ use Rattle.interpreter.specs.object_memory.declared.values.Value.TheVariants.{Re
 use Rattle.interpreter.specs.object_memory.Cells.{Cell, cell_in, literal_number, size, store_copies}
 use Rattle.interpreter.specs.object_memory.Objects.{Objects}
 use Rattle.interpreter.specs.object_memory.Spaces.{AreSpaces, Spaces, clear, found_in, is_noted, other_of}
-use Rattle.interpreter.proofs.object_memory.TwoBlocks.{after_in, apart, no_literal, old_is_cell}
+use Rattle.interpreter.proofs.object_memory.TwoSpaces.TwoBlocks.{after_in, apart, no_literal, old_is_cell}
 use Rattle.interpreter.specs.instructions.barriers.Barriers.{with_marked}
 use Rattle.interpreter.specs.threads_monitors.Roots.{roots}
 use Rattle.interpreter.specs.threads_monitors.declared.threads.ThreadStatus.{ThreadStatus}
@@ -38,11 +38,11 @@ use Rattle.collector.specs.Phases.{is_live, is_marked_cell, is_marked_old, is_ne
 use Rattle.collector.specs.References.{Test, ValuePasses, holds_reference, is_permanent, reference_in}
 use Rattle.collector.specs.Soundness.{IsListed, IsSoundHeap}
 use Rattle.collector.specs.declared.progress.Progress.{Progress}
-use Rattle.collector.proofs.Copying.UnchangedReads.{copied_forward, copied_old, copied_was_new, looked_was_new, looked_was_old}
-use Rattle.collector.proofs.Marking.MarkChanges.{AreDarker}
+use Rattle.collector.proofs.Copies.UnchangedReads.{copied_forward, copied_old, copied_was_new, looked_was_new, looked_was_old}
+use Rattle.collector.proofs.Marks.MarkChanges.{AreDarker}
 use Rattle.collector.proofs.ThreadReferences.LiveValues.{reference_again}
-use Rattle.collector.proofs.Marking.MarkedHeaps.{AreDarker-with_all_marked}
-use Rattle.collector.proofs.Copying.AllocateWork.{looked_sound}
+use Rattle.collector.proofs.Marks.MarkedHeaps.{AreDarker-with_all_marked}
+use Rattle.collector.proofs.Copies.AllocateWork.{looked_sound}
 use Rattle.collector.proofs.Addresses.Tests.{mark_is, marked_cell, never, new_cell, new_is, none_is_new, permanent_not_old}
 use Rattle.simulation.specs.Agreement.{Agree}
 use Rattle.simulation.specs.Collecting.{clear_object, collect, cycle_ended, flip_values, mark_object, next_posted, round_posted, rounds, with_acknowledgement, work, do_work}

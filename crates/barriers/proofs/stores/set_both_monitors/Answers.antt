@@ -1,7 +1,7 @@
 use Rattle.std.proofs.Common.{◌∙◌, ap}
 use Rattle.std.specs.Prelude.{Some, None}
 use Rattle.object_memory.specs.Objects.{object_cell}
-use Rattle.barriers.proofs.Keeping.{both_stored, one_stored, other_decoded, other_there}
+use Rattle.barriers.proofs.UnchangedObjects.{both_stored, one_stored, other_decoded, other_there}
 use Rattle.barriers.proofs.stores.set_both_monitors.Goals as goal
 
 pub set_cell_monitor-requires-in-Some : goal.set_cell_monitor-requires-in-Some

@@ -1,4 +1,4 @@
-use Rattle.barriers.proofs.Keeping.{other_slot}
+use Rattle.barriers.proofs.UnchangedObjects.{other_slot}
 use Rattle.std.proofs.Common.{◌∙◌, ap}
 use Rattle.std.specs.Prelude.{Some}
 use Rattle.barriers.proofs.stores.set_both_slots.Goals as goal

@@ -1,6 +1,6 @@
 use Rattle.std.proofs.Common.{◌<◌, length, subst, sym}
 use Rattle.object_memory.specs.Objects.{Objects, object_slots}
-use Rattle.barriers.proofs.Keeping.{marked_slots}
+use Rattle.barriers.proofs.UnchangedObjects.{marked_slots}
 use Rattle.barriers.proofs.stores.store_in_cycle.Goals as goal
 
 pub set_slot-requires-in-Mark : goal.set_slot-requires-in-Mark

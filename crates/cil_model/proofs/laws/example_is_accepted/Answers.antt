@@ -1,4 +1,4 @@
-use Rattle.cil_model.proofs.ExampleTyping.{sum_accepted}
+use Rattle.cil_model.proofs.Examples.Typing.{sum_accepted}
 use Rattle.cil_model.proofs.laws.example_is_accepted.Goals as goal
 
 pub returns : goal.returns

@@ -1,8 +1,8 @@
 use Rattle.std.proofs.Common.{◌≡◌, true, ap, sym, subst, ◌∙◌}
 use Rattle.object_memory.specs.Spaces.{is_there}
 use Rattle.collector.specs.References.{reference_in}
-use Rattle.collector.specs.declared.walks.Found.{Found}
-use Rattle.collector.proofs.Copying.CopiesStepByStep.{begun_loads, begun_stores, loaded_word}
+use Rattle.collector.specs.declared.walks.FoundObject.{FoundObject}
+use Rattle.collector.proofs.Copies.CopiesStepByStep.{begun_loads, begun_stores, loaded_word}
 use Rattle.collector.proofs.copier.begin_word.Goals as goal
 
 pub store_word-requires-clause-slots : goal.store_word-requires-clause-slots
@@ -24,7 +24,7 @@ pub returns-then-progress-lt-MOST_FAILED_CHECKS : goal.returns-then-progress-lt-
 returns-then-progress-lt-MOST_FAILED_CHECKS c = λ tree laid cell at.
     let p = c.args.progress.now in
     let o = c.args.heap.now in
-    ap (λ n. (record p { cursor = n; attempt = c.load_word.new.attempt }, o)) (ap (λ (f : Found). f.offset) c.requires.offset)
+    ap (λ n. (record p { cursor = n; attempt = c.load_word.new.attempt }, o)) (ap (λ (f : FoundObject). f.offset) c.requires.offset)
     ∙ begun_loads tree p o c.args.next.object cell c.args.copy c.load_word.new.attempt (c.load_word.ensures cell at) c.if-progress-lt-MOST_FAILED_CHECKS.true
 
 pub returns-else-progress-lt-MOST_FAILED_CHECKS : goal.returns-else-progress-lt-MOST_FAILED_CHECKS

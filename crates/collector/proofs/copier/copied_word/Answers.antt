@@ -1,7 +1,7 @@
 use Rattle.std.proofs.Common.{Bool, ap, sym, ◌∙◌}
 use Rattle.std.specs.Prelude.{if◌then◌else◌, is_some}
 use Rattle.barriers.specs.Barriers.{forward_value, is_value_there}
-use Rattle.object_memory.proofs.TwoBlocks.{old_is_cell}
+use Rattle.object_memory.proofs.TwoSpaces.TwoBlocks.{old_is_cell}
 use Rattle.object_memory.specs.Spaces.{forward_word}
 use Rattle.object_memory.specs.Values.{value_word}
 use Rattle.collector.proofs.Addresses.ObjectsInHeaps.{old_reference}

@@ -1,4 +1,4 @@
-use Rattle.collector.proofs.Copying.CopySteps.{both_there, few_words, loaded_done, loaded_forwardable, next_readable}
+use Rattle.collector.proofs.Copies.CopySteps.{both_there, few_words, loaded_done, loaded_forwardable, next_readable}
 use Rattle.collector.proofs.copier.copy_step.Goals as goal
 
 pub begin_word-requires-clause-there : goal.begin_word-requires-clause-there

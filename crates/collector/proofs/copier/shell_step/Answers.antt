@@ -1,9 +1,9 @@
 use Rattle.std.proofs.Common.{arith, inr, refl, sym, ◌∙◌}
 use Rattle.object_memory.specs.Cells.{size}
 use Rattle.object_memory.specs.Spaces.{cell_at}
-use Rattle.object_memory.proofs.TwoBlocks.{old_is_cell}
+use Rattle.object_memory.proofs.TwoSpaces.TwoBlocks.{old_is_cell}
 use Rattle.collector.proofs.Addresses.ObjectsInHeaps.{begun, decoded, walk_fits}
-use Rattle.collector.proofs.Copying.CopiesStepByStep.{room_for_shell}
+use Rattle.collector.proofs.Copies.CopiesStepByStep.{room_for_shell}
 use Rattle.collector.proofs.copier.shell_step.Goals as goal
 
 pub overflow_add-progress : goal.overflow_add-progress

@@ -1,6 +1,6 @@
 use Rattle.std.proofs.Common.{◌-◌, ap, ◌∙◌}
 use Rattle.object_memory.specs.Objects.{with_slot}
-use Rattle.collector.proofs.Copying.CopiesStepByStep.{slot_stored}
+use Rattle.collector.proofs.Copies.CopiesStepByStep.{slot_stored}
 use Rattle.collector.proofs.copier.store_word.Goals as goal
 
 pub returns-else-word-eq0 : goal.returns-else-word-eq0

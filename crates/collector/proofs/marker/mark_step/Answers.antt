@@ -2,7 +2,7 @@ use Rattle.std.proofs.Common.{length, arith, refl, ap, ◌∙◌}
 use Rattle.cil_model.specs.declared.phases.Phase.TheVariants.{Mark}
 use Rattle.collector.specs.Phases.{is_live}
 use Rattle.collector.proofs.Addresses.ObjectsInHeaps.{live_in_mark, old_slots, readable}
-use Rattle.collector.proofs.Marking.MarkSteps.{none_scanned, object_done, oldest_there, slot_done}
+use Rattle.collector.proofs.Marks.MarkSteps.{none_scanned, object_done, oldest_there, slot_done}
 use Rattle.collector.proofs.marker.mark_step.Goals as goal
 
 pub returns-in_default : goal.returns-in_default

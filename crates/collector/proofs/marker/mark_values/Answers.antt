@@ -4,7 +4,7 @@ use Rattle.object_memory.specs.declared.values.Value.TheVariants.{Int32}
 use Rattle.object_memory.specs.Objects.{Objects}
 use Rattle.collector.specs.Conditions.{AreThere}
 use Rattle.collector.specs.Marking.{with_all_marked}
-use Rattle.collector.proofs.Marking.MarkSteps.{all_kept, open_kept}
+use Rattle.collector.proofs.Marks.MarkSteps.{all_kept, open_kept}
 use Rattle.collector.proofs.marker.mark_values.Goals as goal
 
 pub loop-value-preserved : goal.loop-value-preserved

@@ -1,7 +1,7 @@
 use Rattle.std.proofs.Common.{Bool, length, ap, sym, ◌∙◌, arith}
 use Rattle.std.specs.Prelude.{if◌then◌else◌, is_some}
 use Rattle.barriers.specs.Barriers.{is_value_there, with_marked}
-use Rattle.object_memory.proofs.TwoBlocks.{old_is_cell}
+use Rattle.object_memory.proofs.TwoSpaces.TwoBlocks.{old_is_cell}
 use Rattle.object_memory.specs.declared.values.Value.TheVariants.{Ref}
 use Rattle.collector.specs.Marking.{word_of}
 use Rattle.collector.specs.References.{reference_in}

@@ -2,7 +2,7 @@ use Rattle.std.proofs.Common.{sym, ap, ◌∙◌}
 use Rattle.std.specs.Prelude.{is_some}
 use Rattle.object_memory.specs.Cells.{Cell}
 use Rattle.object_memory.specs.Spaces.{cell_at}
-use Rattle.object_memory.proofs.TwoBlocks.{new_is_cell}
+use Rattle.object_memory.proofs.TwoSpaces.TwoBlocks.{new_is_cell}
 use Rattle.collector.proofs.Addresses.ObjectsInHeaps.{decoded}
 use Rattle.collector.proofs.BlockWalks.Walks.{noted_marked, noted_unmarked}
 use Rattle.collector.proofs.walks.is_noted.Goals as goal

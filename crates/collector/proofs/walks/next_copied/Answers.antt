@@ -2,7 +2,7 @@ use Rattle.std.proofs.Common.{sym, ap, ◌∙◌, arith}
 use Rattle.std.specs.Prelude.{is_some}
 use Rattle.object_memory.specs.Cells.{Cell, size}
 use Rattle.object_memory.specs.Spaces.{cell_at, has_other}
-use Rattle.object_memory.proofs.TwoBlocks.{old_is_cell}
+use Rattle.object_memory.proofs.TwoSpaces.TwoBlocks.{old_is_cell}
 use Rattle.collector.proofs.Addresses.ObjectsInHeaps.{begun, ends_below, decoded, walk_fits}
 use Rattle.collector.proofs.BlockWalks.Walks.{found_none, found_now, passed}
 use Rattle.collector.proofs.walks.next_copied.Goals as goal

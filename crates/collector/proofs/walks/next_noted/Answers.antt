@@ -1,7 +1,7 @@
 use Rattle.std.proofs.Common.{sym, ◌∙◌, arith}
 use Rattle.object_memory.specs.Cells.{size}
 use Rattle.object_memory.specs.Spaces.{cell_at, is_noted}
-use Rattle.object_memory.proofs.TwoBlocks.{new_is_cell}
+use Rattle.object_memory.proofs.TwoSpaces.TwoBlocks.{new_is_cell}
 use Rattle.collector.proofs.Addresses.ObjectsInHeaps.{begun, ends_below, decoded, walk_fits}
 use Rattle.collector.proofs.BlockWalks.Walks.{found_none, found_now, passed}
 use Rattle.collector.proofs.walks.next_noted.Goals as goal

@@ -1,7 +1,7 @@
 use Rattle.std.proofs.Common.{◌≡◌, ◌<◌, ℕ, Some, slice_get}
-use Rattle.exploration.proofs.Names.{IsReal, Found}
+use Rattle.exploration.proofs.Names.{IsReal, FoundOutcome}
 use Rattle.exploration.proofs.checking.are_real.Given as goal
 
 -- the findings so far
 abbrev pub invariant-loop-index : goal.invariant-loop-index
-invariant-loop-index g l = (n : ℕ) → n < l.index → (f : Found) → slice_get l.fn.found n ≡ Some f → IsReal g.M.First.first f
+invariant-loop-index g l = (n : ℕ) → n < l.index → (f : FoundOutcome) → slice_get l.fn.found n ≡ Some f → IsReal g.M.First.first f

@@ -1,5 +1,5 @@
 use Rattle.std.proofs.Common.{rules}
-use Rattle.flip_table.proofs.Making.{deals}
+use Rattle.flip_table.proofs.InitialTables.{deals}
 use Rattle.flip_table.proofs.flip_table.deal_writer.Goals as goal
 
 pub split_seat-requires : goal.split_seat-requires

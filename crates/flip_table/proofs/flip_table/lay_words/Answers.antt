@@ -1,5 +1,5 @@
 use Rattle.std.proofs.Common.{rules, ◌∙◌}
-use Rattle.flip_table.proofs.Making.{opens}
+use Rattle.flip_table.proofs.InitialTables.{opens}
 use Rattle.flip_table.proofs.flip_table.lay_words.Goals as goal
 
 pub of_words-requires : goal.of_words-requires

@@ -1,6 +1,6 @@
 use Rattle.std.proofs.Common.{sym, ◌∙◌}
 use Rattle.flow_rules.specs.Named.{type_named}
-use Rattle.flow_rules.proofs.Climbing.{null_apart}
+use Rattle.flow_rules.proofs.AncestorChains.{null_apart}
 use Rattle.flow_rules.proofs.type_tree.merged_with_null.Goals as goal
 
 pub returns-else-is_reference-clause-first : goal.returns-else-is_reference-clause-first

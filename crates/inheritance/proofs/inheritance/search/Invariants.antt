@@ -1,4 +1,4 @@
-use Rattle.inheritance.specs.Ledgers.{IsRight}
+use Rattle.inheritance.specs.ScopedTables.{IsRight}
 use Rattle.inheritance.proofs.inheritance.search.Given as goal
 
 abbrev pub invariant-loop-time : goal.invariant-loop-time

@@ -1,5 +1,5 @@
 use Rattle.std.proofs.Common.{arith}
-use Rattle.inheritance.specs.Ledgers.{IsLeftOut}
+use Rattle.inheritance.specs.ScopedTables.{IsLeftOut}
 use Rattle.inheritance.proofs.LineLaws.{kind_never_ends}
 use Rattle.inheritance.proofs.left_out.is_complete.Goals as goal
 

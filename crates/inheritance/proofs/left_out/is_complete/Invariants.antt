@@ -1,5 +1,5 @@
 use Rattle.std.proofs.Common.{ℕ, ◌<◌}
-use Rattle.inheritance.specs.Ledgers.{IsLeftOut, HasBaseLeftOut}
+use Rattle.inheritance.specs.ScopedTables.{IsLeftOut, HasBaseLeftOut}
 use Rattle.inheritance.proofs.left_out.is_complete.Given as goal
 
 abbrev pub invariant-loop-class : goal.invariant-loop-class

@@ -1,7 +1,7 @@
 use Rattle.std.proofs.Common.{◌≡◌, ◌≤◌, ◌<◌, ◌-◌, ℕ, true, None, length, drop, slice_index_or, sym, ap, ◌∙◌, subst, arith}
 use Rattle.inheritance.specs.declared.changes.Change.{Change}
 use Rattle.inheritance.specs.Changes.{latest_known}
-use Rattle.inheritance.specs.Ledgers.{pair_of}
+use Rattle.inheritance.specs.ScopedTables.{pair_of}
 use Rattle.inheritance.specs.Query.{is_match, next_time, AreNoted, HoldsTill}
 use Rattle.inheritance.proofs.QueryLaws.{noted_later, noted_more, later_both, holds_both, known_between, known_early}
 use Rattle.inheritance.proofs.query.note_row.Goals as goal

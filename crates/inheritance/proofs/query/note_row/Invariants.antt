@@ -1,6 +1,6 @@
 use Rattle.std.proofs.Common.{◌≡◌, true, None, length, drop}
 use Rattle.inheritance.specs.Changes.{latest_known}
-use Rattle.inheritance.specs.Ledgers.{pair_of}
+use Rattle.inheritance.specs.ScopedTables.{pair_of}
 use Rattle.inheritance.specs.Query.{is_match, next_time, AreNoted, AreLater, HoldsTill}
 use Rattle.inheritance.proofs.query.note_row.Given as goal
 

@@ -1,7 +1,7 @@
 use Rattle.std.proofs.Common.{◌≡◌, ◌∷◌, ℕ, true, None, map, slice_index_or, sym, ap, ◌∙◌, subst, arith}
 use borrow.Author.Count.{below_more}
 use Rattle.inheritance.specs.Changes.{changes_of, is_ordered, latest_known, known_of}
-use Rattle.inheritance.specs.Ledgers.{pair_of}
+use Rattle.inheritance.specs.ScopedTables.{pair_of}
 use Rattle.inheritance.specs.Query.{is_match, finds_at, at_first, AreNoted, HoldsTill}
 use Rattle.inheritance.proofs.QueryLaws.{any_at, noted_later, later_both, holds_both}
 use Rattle.inheritance.proofs.query.note_rows.Goals as goal

@@ -1,7 +1,7 @@
 use Rattle.std.proofs.Common.{sym, ◌∙◌, arith}
 use Rattle.object_memory.specs.Cells.{size}
 use Rattle.object_memory.specs.Spaces.{cell_at}
-use Rattle.object_memory.proofs.TwoBlocks.{old_is_cell}
+use Rattle.object_memory.proofs.TwoSpaces.TwoBlocks.{old_is_cell}
 use Rattle.simulation.proofs.collector.Addresses.ObjectsInHeaps.{begun, ends_below, decoded, walk_fits}
 use Rattle.interleaving_core.proofs.CollectorTransitions.AddressWalks.{ahead_first, ahead_last, ahead_on, found_here}
 use Rattle.interleaving_core.proofs.forwards.is_in_old.Goals as goal

@@ -4,7 +4,7 @@ use Rattle.cil_model.specs.declared.trees.Method.{Method}
 use Rattle.name_tables.specs.Methods.{virtual_index, line_of, methods_at}
 use Rattle.name_tables.specs.Numbers.{nearest_number}
 use Rattle.name_tables.specs.Sameness.{identity_of}
-use Rattle.resolved_code.specs.Found.{is_virtual_found}
+use Rattle.resolved_code.specs.VirtualSlots.{is_virtual_found}
 use Rattle.resolved_code.proofs.ListLaws.Tests.{list_all_congr}
 use Rattle.metadata.proofs.MethodLaws.{virtual_on_line}
 use Rattle.metadata.proofs.implemented.absent_at.Goals as goal

@@ -3,7 +3,7 @@ use Rattle.std.specs.List.{list_any, list_all}
 use Rattle.cil_model.specs.Chains.{methods_declared}
 use Rattle.name_tables.specs.Methods.{line_of}
 use Rattle.name_tables.specs.Sameness.{identity_of}
-use Rattle.resolved_code.specs.Found.{is_virtual_found}
+use Rattle.resolved_code.specs.VirtualSlots.{is_virtual_found}
 use Rattle.metadata.proofs.implemented.absent_in_list.Given as goal
 
 abbrev pub invariant-loop-interface : goal.invariant-loop-interface

@@ -3,7 +3,7 @@ use Rattle.std.specs.List.{list_any, list_all}
 use Rattle.cil_model.specs.declared.trees.Method.{Method}
 use Rattle.name_tables.specs.Methods.{line_of}
 use Rattle.name_tables.specs.Sameness.{MethodIdentity, identity_of}
-use Rattle.resolved_code.specs.Found.{is_virtual_found}
+use Rattle.resolved_code.specs.VirtualSlots.{is_virtual_found}
 use Rattle.metadata.proofs.WalkLaws.{all_fail_in, all_after_in, none_left_in}
 use Rattle.metadata.proofs.implemented.absent_method.Goals as goal
 

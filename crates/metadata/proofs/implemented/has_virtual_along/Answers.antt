@@ -4,7 +4,7 @@ use Rattle.inheritance.specs.Lines.{base_in, line_within}
 use Rattle.inheritance.proofs.LineLaws.{line_of_none}
 use Rattle.name_tables.specs.Keys.{method_of_key}
 use Rattle.name_tables.specs.Members.{base_numbers}
-use Rattle.resolved_code.specs.Found.{is_virtual_found}
+use Rattle.resolved_code.specs.VirtualSlots.{is_virtual_found}
 use Rattle.metadata.proofs.MethodLaws.{any_next}
 use Rattle.metadata.proofs.implemented.has_virtual_along.Goals as goal
 

@@ -4,7 +4,7 @@ use Rattle.inheritance.specs.Lines.{line_within}
 use Rattle.name_tables.specs.Keys.{method_of_key}
 use Rattle.name_tables.specs.Members.{base_numbers}
 use Rattle.name_tables.specs.Methods.{line_of}
-use Rattle.resolved_code.specs.Found.{is_virtual_found}
+use Rattle.resolved_code.specs.VirtualSlots.{is_virtual_found}
 use Rattle.metadata.proofs.implemented.has_virtual_along.Given as goal
 
 abbrev pub invariant-loop-left : goal.invariant-loop-left

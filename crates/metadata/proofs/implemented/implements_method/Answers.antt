@@ -5,7 +5,7 @@ use Rattle.inheritance.proofs.LineLaws.{line_of_none}
 use Rattle.name_tables.specs.Keys.{method_of_key}
 use Rattle.name_tables.specs.Members.{base_numbers}
 use Rattle.name_tables.specs.Methods.{line_of}
-use Rattle.resolved_code.specs.Found.{is_virtual_found}
+use Rattle.resolved_code.specs.VirtualSlots.{is_virtual_found}
 use Rattle.metadata.proofs.MethodLaws.{virtual_on_line}
 use Rattle.metadata.proofs.implemented.implements_method.Goals as goal
 

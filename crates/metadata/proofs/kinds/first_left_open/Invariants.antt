@@ -1,6 +1,6 @@
 use Rattle.std.proofs.Common.{◌≡◌, drop}
 use Rattle.std.specs.List.{list_any}
-use Rattle.resolved_code.specs.Found.{class_leaves_open}
+use Rattle.resolved_code.specs.VirtualSlots.{class_leaves_open}
 use Rattle.metadata.proofs.kinds.first_left_open.Given as goal
 
 abbrev pub invariant-loop-class : goal.invariant-loop-class

@@ -1,6 +1,6 @@
 use Rattle.std.proofs.Common.{◌≡◌, drop}
 use Rattle.name_tables.specs.Keys.{method_of_key}
-use Rattle.resolved_code.specs.Found.{slot_by_id, open_by_id}
+use Rattle.resolved_code.specs.VirtualSlots.{slot_by_id, open_by_id}
 use Rattle.metadata.proofs.kinds.is_open.Given as goal
 
 abbrev pub invariant-loop-index : goal.invariant-loop-index

@@ -1,7 +1,7 @@
 use Rattle.std.proofs.Common.{Bool, refl, sym, ◌∙◌, arith, Bor}
 use Rattle.std.specs.List.{list_any}
 use Rattle.cil_model.specs.declared.trees.Method.{Method}
-use Rattle.resolved_code.specs.Found.{method_leaves_open}
+use Rattle.resolved_code.specs.VirtualSlots.{method_leaves_open}
 use Rattle.metadata.proofs.WalkLaws.{any_found_in, any_after_in, none_left_in}
 use Rattle.metadata.proofs.kinds.method_left_open.Goals as goal
 

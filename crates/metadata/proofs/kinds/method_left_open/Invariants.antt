@@ -1,6 +1,6 @@
 use Rattle.std.proofs.Common.{◌≡◌, map, drop}
 use Rattle.std.specs.List.{list_any}
-use Rattle.resolved_code.specs.Found.{method_leaves_open}
+use Rattle.resolved_code.specs.VirtualSlots.{method_leaves_open}
 use Rattle.metadata.proofs.kinds.method_left_open.Given as goal
 
 abbrev pub invariant-loop-index : goal.invariant-loop-index

@@ -7,7 +7,7 @@ use Rattle.inheritance.proofs.LineLaws.{line_of_none}
 use Rattle.name_tables.specs.Keys.{method_of_key}
 use Rattle.name_tables.specs.Members.{base_numbers}
 use Rattle.name_tables.specs.Numbers.{method_found}
-use Rattle.resolved_code.specs.Found.{concrete_by_id}
+use Rattle.resolved_code.specs.VirtualSlots.{concrete_by_id}
 use Rattle.metadata.proofs.MethodLaws.{plain_next}
 use Rattle.metadata.proofs.kinds.plain_along.Goals as goal
 

@@ -3,7 +3,7 @@ use Rattle.inheritance.specs.Lines.{line_within}
 use Rattle.name_tables.specs.Keys.{method_of_key}
 use Rattle.name_tables.specs.Members.{base_numbers}
 use Rattle.name_tables.specs.Methods.{line_of}
-use Rattle.resolved_code.specs.Found.{concrete_by_id}
+use Rattle.resolved_code.specs.VirtualSlots.{concrete_by_id}
 use Rattle.metadata.proofs.kinds.plain_along.Given as goal
 
 abbrev pub invariant-loop-left : goal.invariant-loop-left

@@ -7,7 +7,7 @@ use Rattle.name_tables.specs.Keys.{method_of_key}
 use Rattle.name_tables.specs.Members.{base_numbers}
 use Rattle.name_tables.specs.Methods.{line_of}
 use Rattle.name_tables.specs.Numbers.{method_found}
-use Rattle.resolved_code.specs.Found.{concrete_by_id}
+use Rattle.resolved_code.specs.VirtualSlots.{concrete_by_id}
 use Rattle.metadata.proofs.MethodLaws.{of_pair, plain_tested, tested}
 use Rattle.metadata.proofs.kinds.plain_base.Goals as goal
 

@@ -7,7 +7,7 @@ use Rattle.name_tables.specs.Methods.{line_of}
 use Rattle.name_tables.specs.Numbers.{class_number}
 use Rattle.name_tables.specs.Sameness.{identity_of}
 use Rattle.name_tables.proofs.MemberLaws.{line_is_chain}
-use Rattle.resolved_code.specs.Found.{concrete_by_id}
+use Rattle.resolved_code.specs.VirtualSlots.{concrete_by_id}
 use Rattle.resolved_code.proofs.Numbers.Slots.{nearest_plain}
 use Rattle.resolved_code.proofs.ListLaws.Tests.{third_decides}
 use Rattle.metadata.proofs.kinds.plain_below.Goals as goal

@@ -1,7 +1,7 @@
 use Rattle.std.proofs.Common.{◌≡◌, ℕ, List, IfOk, Some, is_some, subst, ◌∙◌}
 use Rattle.std.specs.List.{list_any}
 use Rattle.name_tables.specs.Methods.{line_of}
-use Rattle.resolved_code.specs.Found.{class_leaves_open}
+use Rattle.resolved_code.specs.VirtualSlots.{class_leaves_open}
 use Rattle.metadata.proofs.kinds.slot_left_open.Goals as goal
 
 pub returns : goal.returns

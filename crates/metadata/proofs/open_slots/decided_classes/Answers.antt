@@ -6,7 +6,7 @@ use Rattle.cil_model.specs.Chains.{is_abstract_method}
 use Rattle.inheritance.specs.Marked.{is_marked}
 use Rattle.name_tables.specs.Methods.{method_index, line_of}
 use Rattle.name_tables.specs.Numbers.{nearest_number}
-use Rattle.resolved_code.specs.Found.{top_open, IsDecided}
+use Rattle.resolved_code.specs.VirtualSlots.{top_open, IsDecided}
 use Rattle.metadata.specs.Open.{marks_in}
 use Rattle.metadata.proofs.MethodLaws.{marked, top_tested, yes_more}
 use Rattle.metadata.proofs.open_slots.decided_classes.Goals as goal

@@ -1,6 +1,6 @@
 use Rattle.std.proofs.Common.{◌≡◌, List, Bool, Some, true, false, replicate, length, slice_get, rules, sym, ap, subst, ◌∙◌}
 use Rattle.name_tables.specs.Methods.{line_of}
-use Rattle.resolved_code.specs.Found.{hidden_open}
+use Rattle.resolved_code.specs.VirtualSlots.{hidden_open}
 use Rattle.metadata.specs.Open.{AreClear}
 use Rattle.metadata.proofs.MethodLaws.{no_set, none_no}
 use Rattle.metadata.proofs.open_slots.hiding_classes.Goals as goal

@@ -7,7 +7,7 @@ use Rattle.name_tables.specs.Keys.{method_of_key}
 use Rattle.name_tables.specs.Members.{base_numbers}
 use Rattle.name_tables.specs.Methods.{line_of}
 use Rattle.name_tables.specs.Numbers.{method_found}
-use Rattle.resolved_code.specs.Found.{top_open}
+use Rattle.resolved_code.specs.VirtualSlots.{top_open}
 use Rattle.metadata.proofs.MethodLaws.{of_pair, top_tested, tested}
 use Rattle.metadata.proofs.open_slots.may_be_top.Goals as goal
 

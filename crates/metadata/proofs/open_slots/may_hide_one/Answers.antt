@@ -2,7 +2,7 @@ use Rattle.std.proofs.Common.{◌≡◌, ◌&&◌, not, List, ℕ, Bor, false, s
 use Rattle.cil_model.specs.declared.trees.Method.{Method}
 use Rattle.name_tables.specs.Methods.{line_of}
 use Rattle.name_tables.specs.Sameness.{identity_of}
-use Rattle.resolved_code.specs.Found.{is_override, top_open}
+use Rattle.resolved_code.specs.VirtualSlots.{is_override, top_open}
 use Rattle.resolved_code.proofs.ListLaws.Tests.{and_false}
 use Rattle.metadata.specs.Open.{hides_one}
 use Rattle.metadata.proofs.WalkLaws.{any_after_in}

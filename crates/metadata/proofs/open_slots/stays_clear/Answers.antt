@@ -4,7 +4,7 @@ use Rattle.std.specs.List.{list_any}
 use Rattle.name_tables.specs.Entries.{entry_of}
 use Rattle.name_tables.specs.Methods.{line_of}
 use Rattle.name_tables.specs.Numbers.{declarations}
-use Rattle.resolved_code.specs.Found.{hidden_open}
+use Rattle.resolved_code.specs.VirtualSlots.{hidden_open}
 use Rattle.metadata.specs.Open.{hides_one}
 use Rattle.metadata.proofs.MethodLaws.{stays_clear, clear_from}
 use Rattle.metadata.proofs.open_slots.stays_clear.Goals as goal

@@ -1,5 +1,5 @@
 use Rattle.object_memory.specs.Cells.{store_slot, store_monitor}
-use Rattle.object_memory.proofs.TwoBlocks.{change-own}
+use Rattle.object_memory.proofs.TwoSpaces.TwoBlocks.{change-own}
 use Rattle.object_memory.proofs.laws.stores_are_found.Goals as goal
 
 pub returns-clause-slot : goal.returns-clause-slot

@@ -1,6 +1,6 @@
 use Rattle.std.proofs.Common.{refl}
 use Rattle.object_memory.specs.Cells.{store_slot, store_monitor}
-use Rattle.object_memory.proofs.TwoBlocks.{change-other, slot_keeps}
+use Rattle.object_memory.proofs.TwoSpaces.TwoBlocks.{change-other, slot_keeps}
 use Rattle.object_memory.proofs.laws.stores_keep_others.Goals as goal
 
 pub returns-clause-slot : goal.returns-clause-slot

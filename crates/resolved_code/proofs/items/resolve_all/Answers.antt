@@ -1,6 +1,6 @@
 use Rattle.std.proofs.Common.{Some, sym, ap, ◌∙◌, arith}
 use Rattle.resolved_code.proofs.ListLaws.FoundItems.{all_some_more, all_some_whole}
-use Rattle.resolved_code.proofs.Resolving.Outcomes.{fails_at, passed_on}
+use Rattle.resolved_code.proofs.Resolution.Outcomes.{fails_at, passed_on}
 use Rattle.resolved_code.proofs.items.resolve_all.Goals as goal
 
 pub returns-in_err-resolve : goal.returns-in_err-resolve

@@ -6,7 +6,7 @@ use Rattle.name_tables.specs.Entries.{declaration_in, entry_of}
 use Rattle.name_tables.proofs.Lists.{map_of_map}
 use Rattle.resolved_code.specs.Outcomes.{Gives}
 use Rattle.resolved_code.specs.Rules.{all_some, class_rule, classes_rule}
-use Rattle.resolved_code.proofs.Resolving.Programs.{all_resolved, all_found}
+use Rattle.resolved_code.proofs.Resolution.Programs.{all_resolved, all_found}
 use Rattle.resolved_code.proofs.resolved.resolve_classes.Goals as goal
 
 pub returns : goal.returns

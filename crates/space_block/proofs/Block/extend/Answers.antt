@@ -1,6 +1,6 @@
 use Rattle.std.proofs.Common.{◌≤◌, ◌+◌, ap, ◌∙◌, length, sym, arith}
 use Rattle.space_block.specs.Written.{row_of}
-use Rattle.space_block.proofs.Written.{extended, extended_row, length-cleared, length-row}
+use Rattle.space_block.proofs.WordSequences.{extended, extended_row, length-cleared, length-row}
 use Rattle.space_block.proofs.Block.extend.Goals as goal
 
 pub invariant_of-self : goal.invariant_of-self

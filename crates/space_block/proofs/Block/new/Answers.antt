@@ -2,7 +2,7 @@ use Rattle.std.proofs.Common.{refl, sym, ap, ◌∙◌, arith, length}
 use Rattle.std.proofs.lemmas.List.{length-replicate}
 use Rattle.std.specs.Prelude.{ℕ, Option, None}
 use Rattle.space_block.specs.Rows.{blank}
-use Rattle.space_block.proofs.Written.{blank_row}
+use Rattle.space_block.proofs.WordSequences.{blank_row}
 use Rattle.space_block.proofs.Block.new.Goals as goal
 
 pub invariant_of-result : goal.invariant_of-result

@@ -1,5 +1,5 @@
 use Rattle.std.proofs.Common.{◌≤◌, sym, arith, length}
-use Rattle.space_block.proofs.Written.{read_at}
+use Rattle.space_block.proofs.WordSequences.{read_at}
 use Rattle.space_block.proofs.Block.read.Goals as goal
 
 pub read-requires : goal.read-requires

@@ -1,6 +1,6 @@
 use Rattle.std.proofs.Common.{◌≤◌, sym, ap, ◌∙◌, arith, length}
 use Rattle.space_block.specs.Rows.{blank}
-use Rattle.space_block.proofs.Written.{blank_row, length-row}
+use Rattle.space_block.proofs.WordSequences.{blank_row, length-row}
 use Rattle.space_block.proofs.Block.reset.Goals as goal
 
 pub returns : goal.returns

@@ -2,7 +2,7 @@ use Rattle.std.proofs.Common.{◌≤◌, sym, ap, ◌∙◌, arith, length}
 use Rattle.std.proofs.Math.ListN.{length-set}
 use Rattle.std.specs.Prelude.{Some}
 use Rattle.space_block.specs.Written.{row_of}
-use Rattle.space_block.proofs.Written.{stored_at, stored_row}
+use Rattle.space_block.proofs.WordSequences.{stored_at, stored_row}
 use Rattle.space_block.proofs.Block.write.Goals as goal
 
 pub invariant_of-self : goal.invariant_of-self

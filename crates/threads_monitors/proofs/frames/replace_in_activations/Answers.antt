@@ -1,6 +1,6 @@
 use Rattle.std.proofs.Common.{refl}
 use Rattle.threads_monitors.specs.Activations.{with_constructed}
-use Rattle.threads_monitors.proofs.Replacing.{no_activation, is_answered, may_be_asked, one_more, all_replaced}
+use Rattle.threads_monitors.proofs.ReplacedReferences.{no_activation, is_answered, may_be_asked, one_more, all_replaced}
 use Rattle.threads_monitors.proofs.frames.replace_in_activations.Goals as goal
 
 pub loop-activation-init : goal.loop-activation-init

@@ -1,6 +1,6 @@
 use Rattle.std.proofs.Common.{refl}
 use Rattle.threads_monitors.specs.Roots.{reference_in, with_reference}
-use Rattle.threads_monitors.proofs.Replacing.{no_value, is_answered, may_be_asked, one_more, all_replaced}
+use Rattle.threads_monitors.proofs.ReplacedReferences.{no_value, is_answered, may_be_asked, one_more, all_replaced}
 use Rattle.threads_monitors.proofs.frames.replace_in_values.Goals as goal
 
 pub loop-value-init : goal.loop-value-init

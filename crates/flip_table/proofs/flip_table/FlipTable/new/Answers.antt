@@ -5,7 +5,7 @@ use Rattle.std.proofs.lemmas.Result.{IfOk-from_err}
 use Rattle.std.specs.List.{range_with_len}
 use Rattle.flip_table.specs.Plans.{plan_of}
 use Rattle.flip_table.specs.Tokens.{initial_seat}
-use Rattle.flip_table.proofs.Making.{few_words, some_words}
+use Rattle.flip_table.proofs.InitialTables.{few_words, some_words}
 use Rattle.flip_table.proofs.flip_table.FlipTable.new.Goals as goal
 
 pub loop-index-preserved : goal.loop-index-preserved

@@ -1,7 +1,7 @@
 use Rattle.std.proofs.Common.{sym}
 use Rattle.cil_model.specs.declared.trees.Tree.{Tree}
 use Rattle.flow_rules.specs.Named.{type_named}
-use Rattle.flow_rules.proofs.Climbing.{next, past}
+use Rattle.flow_rules.proofs.AncestorChains.{next, past}
 use Rattle.flow_rules.proofs.type_tree.TypeTree.ancestor.Goals as goal
 
 pub returns-in_err-here-clause-named : goal.returns-in_err-here-clause-named

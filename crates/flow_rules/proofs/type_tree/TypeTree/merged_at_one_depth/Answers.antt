@@ -4,7 +4,7 @@ use Rattle.cil_model.specs.declared.types.DeclaredType.{DeclaredType}
 use Rattle.resolved_code.specs.declared.types.ResolvedType.{ResolvedType}
 use Rattle.flow_rules.specs.Named.{type_named}
 use Rattle.flow_rules.proofs.Classes.{one_type}
-use Rattle.flow_rules.proofs.Climbing.{next, too_far}
+use Rattle.flow_rules.proofs.AncestorChains.{next, too_far}
 use Rattle.flow_rules.proofs.DepthLaws.{NoneYet, level_closest, none_next, level_apart, level_apart_second}
 use Rattle.flow_rules.proofs.type_tree.TypeTree.merged_at_one_depth.Goals as goal
 

@@ -2,7 +2,7 @@ use Rattle.std.proofs.Common.{◌<◌, ◌+◌, Some, map, sym, ap, ◌∙◌, a
 use Rattle.std.proofs.lemmas.Option.{same_Some}
 use Rattle.inheritance.specs.declared.changes.Declared.{Declared}
 use Rattle.inheritance.specs.Lines.{line_within, index_in, nearest}
-use Rattle.inheritance.specs.Ledgers.{pair_of}
+use Rattle.inheritance.specs.ScopedTables.{pair_of}
 use Rattle.inheritance.proofs.CutLaws.{finds_nothing, found_in_part}
 use Rattle.inheritance.proofs.cut_cycles.CutCycles.nearest_in_part.Goals as goal
 

@@ -1,5 +1,5 @@
 use Rattle.std.proofs.Common.{◌≡◌, Some}
-use Rattle.inheritance.specs.Ledgers.{nearest_from}
+use Rattle.inheritance.specs.ScopedTables.{nearest_from}
 use Rattle.inheritance.proofs.forests.Forest.nearest_along.Given as goal
 
 abbrev pub invariant-loop-left : goal.invariant-loop-left

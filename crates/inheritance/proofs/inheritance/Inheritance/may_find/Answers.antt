@@ -1,7 +1,7 @@
 use Rattle.std.proofs.Common.{Some, suc, nat_lt, map, sym, ap, ◌∙◌, arith}
 use Rattle.std.proofs.lemmas.Bool.{leb-true}
 use Rattle.inheritance.specs.Changes.{known_of}
-use Rattle.inheritance.specs.Ledgers.{pair_of, nearest_from}
+use Rattle.inheritance.specs.ScopedTables.{pair_of, nearest_from}
 use Rattle.inheritance.specs.Query.{is_match}
 use Rattle.inheritance.proofs.QueryLaws.{any_same}
 use Rattle.inheritance.proofs.inheritance.Inheritance.may_find.Goals as goal

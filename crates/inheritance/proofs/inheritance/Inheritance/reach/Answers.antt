@@ -2,7 +2,7 @@ use Rattle.std.proofs.Common.{◌≡◌, ◌≤◌, ◌<◌, ◌++◌, ◌∷◌
 use Rattle.std.proofs.Math.Seq.{take-append_seam}
 use Rattle.inheritance.specs.declared.changes.Change.{Change}
 use Rattle.inheritance.specs.Changes.{changes_of, known_of}
-use Rattle.inheritance.specs.Ledgers.{pair_of}
+use Rattle.inheritance.specs.ScopedTables.{pair_of}
 use Rattle.inheritance.specs.Query.{is_match, finds_at, at_first, AreNoted, HoldsTill}
 use Rattle.inheritance.proofs.Results.{if_both}
 use Rattle.inheritance.proofs.QueryLaws.{no_ends, none_sought, reach_sought, reach_decides}

@@ -1,5 +1,5 @@
 use Rattle.std.proofs.Common.{Some, ap, ◌∙◌}
-use Rattle.inheritance.specs.Ledgers.{nearest_from}
+use Rattle.inheritance.specs.ScopedTables.{nearest_from}
 use Rattle.name_tables.specs.declared.keys.CallNumber.{CallNumber}
 use Rattle.name_tables.specs.Inherited.{number_in}
 use Rattle.name_tables.specs.Keys.{called_of_key}

@@ -8,9 +8,9 @@ use Rattle.name_tables.proofs.lookups.NameTables.chain.Goals as goal
 pub returns-in-None : goal.returns-in-None
 returns-in-None c =
     let t = c.args.self.now.classes.tree.now in
-    c.new.ensures.items ∙ sym (numbers_of_unknown t (longest_chain t) (class_of_key c.args.name) (sym c.number.ensures ∙ c.in-None.is))
+    c.new.ensures.items ∙ sym (numbers_of_unknown t (longest_chain t) (class_of_key c.args.name) (sym c.id.ensures ∙ c.in-None.is))
 
 pub returns-in-Some : goal.returns-in-Some
 returns-in-Some c =
-    let line = line_of_class c.args.self.now.classes.tree.now (class_of_key c.args.name) c.in-Some.class (sym c.number.ensures ∙ c.in-Some.is) in
+    let line = line_of_class c.args.self.now.classes.tree.now (class_of_key c.args.name) c.in-Some.class (sym c.id.ensures ∙ c.in-Some.is) in
     subst (λ (numbers : List ℕ). IfOk c.line.result (λ v. v.items ≡ numbers)) line c.line.ensures

@@ -1,7 +1,7 @@
 use Rattle.std.proofs.Common.{◌≡◌, ◌<◌, ◌+◌, true, Some, slice_get, sym, ap, ◌∙◌, arith, length, map}
 use Rattle.std.proofs.lemmas.List.{length-map}
 use Rattle.inheritance.specs.Lines.{Ends}
-use Rattle.inheritance.specs.Ledgers.{nearest_from}
+use Rattle.inheritance.specs.ScopedTables.{nearest_from}
 use Rattle.inheritance.specs.Marked.{is_marked}
 use Rattle.name_tables.specs.declared.keys.MethodKey.{MethodKey}
 use Rattle.name_tables.specs.Inherited.{number_in}

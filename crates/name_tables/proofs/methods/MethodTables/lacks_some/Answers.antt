@@ -2,7 +2,7 @@ use Rattle.std.proofs.Common.{ℕ, ◌==◌, length, arith, ◌≡◌, ℕ, Bool
 use Rattle.std.specs.List.{list_all}
 use Rattle.cil_model.specs.declared.trees.Method.{Method}
 use Rattle.inheritance.specs.Lines.{Ends}
-use Rattle.inheritance.specs.Ledgers.{nearest_from}
+use Rattle.inheritance.specs.ScopedTables.{nearest_from}
 use Rattle.name_tables.specs.Inherited.{number_in}
 use Rattle.name_tables.specs.Methods.{identity_number, virtual_number, virtual_index, line_of, methods_at}
 use Rattle.name_tables.specs.Numbers.{nearest_number}
@@ -18,7 +18,7 @@ finds_nothing-requires c =
     let tables = c.args.self.now.overridable in
     let again : ℕ → ℕ = number_in (λ (a b : ℕ). a == b) tables.keys in
     let keys = tables.inheritance.forest.keys in
-    ap (list_all (λ n. nat_lt n keys)) (c.as_slice.ensures.value ∙ c.in_ok-numbers.ensures) ∙ are_keys again keys (λ n. let low = number_within (λ (a b : ℕ). a == b) tables.keys n in omega (arith, low, tables.within)) c.numbers_at.result.now
+    ap (list_all (λ n. nat_lt n keys)) (c.as_slice.ensures.value ∙ c.in_ok-numbers.ensures) ∙ are_keys again keys (λ n. let low = number_within (λ (a b : ℕ). a == b) tables.keys n in omega (arith, low, tables.within)) c.key_numbers.result.now
 
 pub returns-clause-width : goal.returns-clause-width
 returns-clause-width c = if_ok c.finds_nothing.result c.finds_nothing.ensures.width (λ lacking width. width ∙ ap length c.args.self.now.overridable_are.bases)
@@ -38,9 +38,9 @@ returns-clause-reported c = if_ok c.finds_nothing.result c.finds_nothing.ensures
     let again : ℕ → ℕ = number_in (λ (a b : ℕ). a == b) tables.keys in
     let found : ℕ → Option (ℕ × ℕ) = λ n. nearest_from forest n forest.most (Some class) in
     let all : Bool = list_all (λ (m : Method). is_some (nearest_number (virtual_index t (identity_of m)) (line_of t (Some class)))) (methods_at t c.args.interface) in
-    let has_id : c.as_slice.result.now ≡ map again c.numbers_at.result.now = c.as_slice.ensures.value ∙ c.in_ok-numbers.ensures in
+    let has_id : c.as_slice.result.now ≡ map again c.key_numbers.result.now = c.as_slice.ensures.value ∙ c.in_ok-numbers.ensures in
     let of_numbers : list_all (λ n. is_some (found n)) c.as_slice.result.now ≡ all =
-    ap (list_all (λ n. is_some (found n))) has_id ∙ all_of_map again (λ n. is_some (found n)) c.numbers_at.result.now ∙ ap (list_all (λ n. is_some (found (again n)))) c.numbers_at.ensures ∙
+    ap (list_all (λ n. is_some (found n))) has_id ∙ all_of_map again (λ n. is_some (found n)) c.key_numbers.result.now ∙ ap (list_all (λ n. is_some (found (again n)))) c.key_numbers.ensures ∙
     found_by_numbers t (identity_number s.names.now.methods.keys) (map (λ r. r.items) s.names.now.methods.inheritance.forest.declared.items) s.names.now.methods_are.numbers again forest s.overridable_are c.args.interface class in
     let of_forest : Ends forest.bases.items forest.most class → b ≡ not all = λ ends.
     reported class b e ends ∙ some_none found c.as_slice.result.now ∙ ap not of_numbers in

@@ -1,6 +1,6 @@
 use Rattle.std.proofs.Common.{Some, ap, ◌∙◌}
 use Rattle.inheritance.specs.Lines.{Ends}
-use Rattle.inheritance.specs.Ledgers.{nearest_from}
+use Rattle.inheritance.specs.ScopedTables.{nearest_from}
 use Rattle.name_tables.specs.Keys.{method_of_key}
 use Rattle.name_tables.specs.Methods.{identity_number, method_index}
 use Rattle.name_tables.specs.Sameness.{same_identity}

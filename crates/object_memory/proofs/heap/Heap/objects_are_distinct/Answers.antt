@@ -1,5 +1,5 @@
 use Rattle.object_memory.specs.Objects.{spaces_of}
-use Rattle.object_memory.proofs.TwoBlocks.{not_at_null, not_at_literals}
+use Rattle.object_memory.proofs.TwoSpaces.TwoBlocks.{not_at_null, not_at_literals}
 use Rattle.object_memory.proofs.heap.Heap.objects_are_distinct.Goals as goal
 
 pub returns-clause-null : goal.returns-clause-null

@@ -2,7 +2,7 @@ use Rattle.std.proofs.Common.{refl, subst}
 use Rattle.std.specs.Prelude.{Some, IsSome}
 use Rattle.object_memory.specs.Cells.{store_monitor}
 use Rattle.object_memory.specs.Objects.{IsHeld}
-use Rattle.object_memory.proofs.TwoHeld.{held_old, held_new, cells_spanned, changed_old, changed_new, none_old, beside}
+use Rattle.object_memory.proofs.TwoSpaces.TwoHeld.{held_old, held_new, cells_spanned, changed_old, changed_new, none_old, beside}
 use Rattle.object_memory.proofs.heap.Heap.set_cell_monitor.Goals as goal
 
 pub invariant_of-self : goal.invariant_of-self

@@ -2,8 +2,8 @@ use Rattle.std.proofs.Common.{◌<◌, length, refl, subst}
 use Rattle.std.specs.Prelude.{Some}
 use Rattle.object_memory.specs.Cells.{store_slot}
 use Rattle.object_memory.specs.Objects.{IsHeld}
-use Rattle.object_memory.proofs.TwoBlocks.{slot_keeps}
-use Rattle.object_memory.proofs.TwoHeld.{held_old, held_new, slots_spanned, changed_old, changed_new, none_old, beside}
+use Rattle.object_memory.proofs.TwoSpaces.TwoBlocks.{slot_keeps}
+use Rattle.object_memory.proofs.TwoSpaces.TwoHeld.{held_old, held_new, slots_spanned, changed_old, changed_new, none_old, beside}
 use Rattle.object_memory.proofs.heap.Heap.set_slot.Goals as goal
 
 pub invariant_of-self : goal.invariant_of-self

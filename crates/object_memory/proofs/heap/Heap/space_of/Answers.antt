@@ -1,5 +1,5 @@
 use Rattle.std.proofs.Common.{sym}
-use Rattle.object_memory.proofs.TwoHeld.{cells_spanned}
+use Rattle.object_memory.proofs.TwoSpaces.TwoHeld.{cells_spanned}
 use Rattle.object_memory.proofs.heap.Heap.space_of.Goals as goal
 
 pub returns-then-spans : goal.returns-then-spans

@@ -4,7 +4,7 @@ use Rattle.cil_model.specs.declared.instructions.Instruction.{Instruction}
 use Rattle.resolved_code.specs.declared.operations.Operation.TheVariants.{Switch}
 use Rattle.resolved_code.specs.Outcomes.{Fails}
 use Rattle.resolved_code.specs.Rules.{all_some, operation_rule}
-use Rattle.resolved_code.proofs.Resolving.Outcomes.{passed_on, fails_last, found}
+use Rattle.resolved_code.proofs.Resolution.Outcomes.{passed_on, fails_last, found}
 use Rattle.resolved_code.proofs.InstructionOperations.InstructionsWithoutNames.{named_nothing}
 use Rattle.resolved_code.proofs.instructions.BodyResolverResolveLine.resolve.Goals.{in-LoadString, in-Switch+in_ok-indices-in-Switch, in_default, in-Call, in-LoadField, in-NewArray, in-Branch}
 use Rattle.resolved_code.proofs.instructions.BodyResolverResolveLine.resolve.Goals as goal

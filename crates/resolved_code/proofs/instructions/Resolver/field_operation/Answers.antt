@@ -3,7 +3,7 @@ use Rattle.name_tables.specs.Numbers.{class_number}
 use Rattle.name_tables.specs.declared.ids.FieldId.{FieldId}
 use Rattle.resolved_code.specs.declared.operations.Operation.TheVariants.{LoadField, StoreField, LoadStaticField, StoreStaticField}
 use Rattle.resolved_code.specs.Rules.{field_id, field_rule, field_operand_rule}
-use Rattle.resolved_code.proofs.Resolving.ClassesAndMethods.{made_of_both}
+use Rattle.resolved_code.proofs.Resolution.ClassesAndMethods.{made_of_both}
 use Rattle.resolved_code.proofs.instructions.Resolver.field_operation.Goals.{in-LoadField+in_ok-owner-in-LoadField, in-StoreField+in_ok-owner-in-StoreField, in-LoadStaticField+in_ok-find_field-in-LoadStaticField, in-StoreStaticField+in_ok-find_field-in-StoreStaticField}
 use Rattle.resolved_code.proofs.instructions.Resolver.field_operation.Goals as goal
 

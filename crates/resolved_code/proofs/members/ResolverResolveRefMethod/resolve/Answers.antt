@@ -2,7 +2,7 @@ use Rattle.std.proofs.Common.{sym, ap, ◌∙◌}
 use Rattle.name_tables.specs.Sameness.{identity_of}
 use Rattle.resolved_code.specs.Identities.{identity_number}
 use Rattle.resolved_code.specs.Rules.{types_rule}
-use Rattle.resolved_code.proofs.Resolving.ClassesAndMethods.{method_made}
+use Rattle.resolved_code.proofs.Resolution.ClassesAndMethods.{method_made}
 use Rattle.resolved_code.proofs.members.ResolverResolveRefMethod.resolve.Goals as goal
 
 pub returns : goal.returns

@@ -3,8 +3,8 @@ use Rattle.name_tables.specs.Entries.{declaration_in}
 use Rattle.resolved_code.specs.Outcomes.{Fails}
 use Rattle.resolved_code.specs.Rules.{resolved_field_rule, resolved_method_rule}
 use Rattle.resolved_code.proofs.ListLaws.FoundItems.{all_some_seen}
-use Rattle.resolved_code.proofs.Resolving.ClassesAndMethods.{class_made, fields_fail, methods_fail}
-use Rattle.resolved_code.proofs.Resolving.Outcomes.{passed_on}
+use Rattle.resolved_code.proofs.Resolution.ClassesAndMethods.{class_made, fields_fail, methods_fail}
+use Rattle.resolved_code.proofs.Resolution.Outcomes.{passed_on}
 use Rattle.resolved_code.proofs.resolved.ResolverResolveClassTable.resolve.Goals as goal
 
 pub returns-in_err-resolve_all-2 : goal.returns-in_err-resolve_all-2

@@ -1,6 +1,6 @@
 use Rattle.std.proofs.Common.{ap, ◌∙◌, set, arith}
 use Rattle.std.specs.Prelude.{Some}
-use Rattle.space_block.proofs.Written.{cleared_more}
+use Rattle.space_block.proofs.WordSequences.{cleared_more}
 use Rattle.space_block.proofs.words.Words.clear.Goals as goal
 
 pub loop-place-preserved : goal.loop-place-preserved

@@ -1,5 +1,5 @@
 use Rattle.std.proofs.Common.{◌≡◌, ◌≤◌}
-use Rattle.space_block.proofs.Written.{cleared}
+use Rattle.space_block.proofs.WordSequences.{cleared}
 use Rattle.space_block.proofs.words.Words.clear.Given as goal
 
 abbrev pub invariant-loop-place : goal.invariant-loop-place

@@ -1,5 +1,5 @@
 use Rattle.std.proofs.Common.{string_bytes}
-use Rattle.svg_text.proofs.Formed.{formed_lost, formed_more}
+use Rattle.svg_text.proofs.WellFormed.{formed_lost, formed_more}
 use Rattle.svg_text.proofs.content.Content.add.Goals as goal
 
 pub invariant_of-self : goal.invariant_of-self

@@ -1,5 +1,5 @@
 use Rattle.std.proofs.Common.{string_bytes}
-use Rattle.svg_text.proofs.Formed.{machine_state_of_whole}
+use Rattle.svg_text.proofs.WellFormed.{machine_state_of_whole}
 use Rattle.svg_text.proofs.content.Content.append.Goals as goal
 
 pub add-requires : goal.add-requires

@@ -1,6 +1,6 @@
 use Rattle.std.proofs.Common.{◌∙◌, ap, string_bytes}
 use Rattle.svg_text.specs.Elements.{element_text}
-use Rattle.svg_text.proofs.Formed.{adds_made, formed_around, made_of_pieces}
+use Rattle.svg_text.proofs.WellFormed.{adds_made, formed_around, made_of_pieces}
 use Rattle.svg_text.proofs.content.Content.around.Goals as goal
 
 pub add-requires : goal.add-requires

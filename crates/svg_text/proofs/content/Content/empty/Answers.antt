@@ -1,5 +1,5 @@
 use Rattle.std.proofs.Common.{◌∙◌}
-use Rattle.svg_text.proofs.Formed.{formed_empty}
+use Rattle.svg_text.proofs.WellFormed.{formed_empty}
 use Rattle.svg_text.proofs.content.Content.empty.Goals as goal
 
 pub add-requires : goal.add-requires

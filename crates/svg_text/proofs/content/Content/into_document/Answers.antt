@@ -1,6 +1,6 @@
 use Rattle.std.proofs.Common.{◌∙◌, string_bytes}
 use Rattle.svg_text.specs.declared.markup.Tag.TheVariants.{Svg}
-use Rattle.svg_text.proofs.Formed.{document_formed, made_of_pieces}
+use Rattle.svg_text.proofs.WellFormed.{document_formed, made_of_pieces}
 use Rattle.svg_text.proofs.content.Content.into_document.Goals as goal
 
 pub returns-then-is_whole-clause-formed : goal.returns-then-is_whole-clause-formed

@@ -1,6 +1,6 @@
 use Rattle.std.proofs.Common.{sym, subst, true}
 use Rattle.svg_text.specs.Contents.{IsFormed}
-use Rattle.svg_text.proofs.Formed.{formed_nothing}
+use Rattle.svg_text.proofs.WellFormed.{formed_nothing}
 use Rattle.svg_text.proofs.content.Content.new.Goals as goal
 
 pub invariant_of-result : goal.invariant_of-result

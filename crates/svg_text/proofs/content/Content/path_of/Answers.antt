@@ -1,6 +1,6 @@
 use Rattle.std.proofs.Common.{◌++◌, ◌∙◌, ap, subst}
 use Rattle.svg_text.specs.Contents.{Adds}
-use Rattle.svg_text.proofs.Formed.{made_of_data, path_after, path_before}
+use Rattle.svg_text.proofs.WellFormed.{made_of_data, path_after, path_before}
 use Rattle.svg_text.proofs.content.Content.path_of.Goals as goal
 
 pub returns : goal.returns

@@ -1,7 +1,7 @@
 use Rattle.std.proofs.Common.{◌∙◌, subst}
 use Rattle.svg_text.specs.Contents.{Adds}
 use Rattle.svg_text.specs.Elements.{escape}
-use Rattle.svg_text.proofs.Formed.{formed_words, made_of_pieces}
+use Rattle.svg_text.proofs.WellFormed.{formed_words, made_of_pieces}
 use Rattle.svg_text.proofs.content.Content.words.Goals as goal
 
 pub add-requires : goal.add-requires

@@ -2,7 +2,7 @@ use Rattle.std.proofs.Common.{ap, map, ◌∙◌}
 use Rattle.std.specs.Prelude.{vec_capacity}
 use Rattle.threads_monitors.specs.Roots.{IsAnswer, with_reference}
 use Rattle.threads_monitors.specs.Activations.{with_constructed}
-use Rattle.threads_monitors.proofs.Replacing.{asked}
+use Rattle.threads_monitors.proofs.ReplacedReferences.{asked}
 use Rattle.threads_monitors.proofs.Memories.{reaches, after_writing}
 use Rattle.threads_monitors.proofs.frames.FrameMemory.replace_references.Goals as goal
 
