@@ -261,15 +261,15 @@ module _ (tree : Tree) where
       by_row None = refl
       by_row (Some row) = refl
 
-  abbrev Tells : List (List Targets) → ℕ → MethodId → ClassName → ClassName → Method → Type 0
-  Tells rows class method d x y = option_map target_method (option_and_then (target_in class method) (option_map targets_of (slice_get (unwrap_or (slice_get rows method.class) []) method.index))) ≡ option_map Some (target tree d x y)
+  abbrev IsTarget : List (List Targets) → ℕ → MethodId → ClassName → ClassName → Method → Type 0
+  IsTarget rows class method d x y = option_map target_method (option_and_then (target_in class method) (option_map targets_of (slice_get (unwrap_or (slice_get rows method.class) []) method.index))) ≡ option_map Some (target tree d x y)
 
   -- what the table says of a method and a class of objects
   pub target_found : IsLegal tree → (rows : List (List Targets)) (class : ℕ) (method : MethodId) (c d : ClassName) (m : Method) → map (map targets_of) rows ≡ by_class tree (target_rows tree) → class_name tree class ≡ Some d → target_method method ≡ Some (c, m) →
       option_map target_method (option_and_then (target_in class method) (option_map targets_of (slice_get (unwrap_or (slice_get rows method.class) []) method.index))) ≡ option_map Some (target tree d c m)
   target_found legal rows class method c d m are named at = by_entry (slice_get (declarations tree) method.class) refl at
     where
-      by_index : (a : ClassName) (x : Declaration) (y : Method) → slice_get (declarations tree) method.class ≡ Some (a, x) → slice_get x.methods method.index ≡ Some y → target_method method ≡ Some (a, y) → Tells rows class method d a y
+      by_index : (a : ClassName) (x : Declaration) (y : Method) → slice_get (declarations tree) method.class ≡ Some (a, x) → slice_get x.methods method.index ≡ Some y → target_method method ≡ Some (a, y) → IsTarget rows class method d a y
       by_index a x y h g holds =
           let number : class_number tree a ≡ Some method.class = number_of_index tree legal method.class (a, x) h in
           let found : FoundAt tree a method.class = found_at tree a method.class number in
@@ -285,13 +285,13 @@ module _ (tree : Tree) where
           slice_get-map (target_row tree a) (methods_declared tree a) method.index ∙ ap (option_map (target_row tree a)) own in
           ap (λ o. option_map target_method (option_and_then (target_in class method) o)) entry ∙ row_decides a d method.class class y method number named holds
 
-      by_entry : (o : Option (ClassName × Declaration)) → slice_get (declarations tree) method.class ≡ o → option_and_then {U = ClassName × Method} (λ (e : ClassName × Declaration). option_map (λ x. (e.0, x)) (slice_get e.1.methods method.index)) o ≡ Some (c, m) → Tells rows class method d c m
+      by_entry : (o : Option (ClassName × Declaration)) → slice_get (declarations tree) method.class ≡ o → option_and_then {U = ClassName × Method} (λ (e : ClassName × Declaration). option_map (λ x. (e.0, x)) (slice_get e.1.methods method.index)) o ≡ Some (c, m) → IsTarget rows class method d c m
       by_entry None h g = absurd (none_is_some (c, m) g)
       by_entry (Some (a, x)) h g = by_method (slice_get x.methods method.index) refl g
         where
-          by_method : (o : Option Method) → slice_get x.methods method.index ≡ o → option_map {U = ClassName × Method} (λ y. (a, y)) o ≡ Some (c, m) → Tells rows class method d c m
+          by_method : (o : Option Method) → slice_get x.methods method.index ≡ o → option_map {U = ClassName × Method} (λ y. (a, y)) o ≡ Some (c, m) → IsTarget rows class method d c m
           by_method None p z = absurd (none_is_some (c, m) z)
           by_method (Some y) p z =
               let pairs : (a, y) ≡ (c, m) = cc in
-              let P : ClassName × Method → Type 0 = λ q. Tells rows class method d q.0 q.1 in
+              let P : ClassName × Method → Type 0 = λ q. IsTarget rows class method d q.0 q.1 in
               subst P pairs (by_index a x y h p (at ∙ ap Some (sym pairs)))

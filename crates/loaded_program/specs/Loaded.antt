@@ -33,7 +33,7 @@ pub record AreMethodNumbers (tree : Tree) (numbers : MethodNumbers) : Type 0 whe
 -- what instructions are linked by is of one program
 pub record CanLink (linker : Linker) : Type 0 where
   pub laid_out : IsLayout linker.program.now linker.layout.now
-  pub numbered : AreMethodNumbers linker.program.now linker.numbers.now
+  pub flat_numbers : AreMethodNumbers linker.program.now linker.numbers.now
 
 -- the resolved instructions of a method; none where it has no code (II.15.4.2)
 abbrev pub operations_of : ResolvedKind → List Operation
@@ -69,7 +69,7 @@ pub record IsLoadedMethod (tree : Tree) (found : ClassName × Method) (loaded : 
 -- a loaded program
 pub record IsLoaded (tree : Tree) (layout : Layout) (numbers : MethodNumbers) (methods : List LoadedMethod) : Type 0 where
   pub laid_out : IsLayout tree layout
-  pub numbered : AreMethodNumbers tree numbers
+  pub flat_numbers : AreMethodNumbers tree numbers
   pub loaded : AllAlike (IsLoadedMethod tree) (all_methods tree) methods
 
 -- ---- what is found

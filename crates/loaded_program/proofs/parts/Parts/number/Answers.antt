@@ -11,4 +11,4 @@ returns c found at =
     let member = c.args.member in
     let there = subst (λ (t : Tree). method_at t (member.class, member.index) ≡ Some found) (sym c.self.view_is) at in
     subst (λ (t : Tree). slice_get (all_methods t) c.number.result ≡ Some found) c.self.view_is
-    (ap (slice_get (all_methods tree)) (c.number.ensures tree c.self.invariant.numbered found there) ∙ method_of_number tree member.class member.index found there)
+    (ap (slice_get (all_methods tree)) (c.number.ensures tree c.self.invariant.flat_numbers found there) ∙ method_of_number tree member.class member.index found there)

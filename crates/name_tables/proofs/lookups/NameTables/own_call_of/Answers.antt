@@ -13,7 +13,7 @@ use Rattle.name_tables.proofs.lookups.NameTables.own_call_of.Goals as goal
 abbrev pair : MethodId → ℕ × ℕ
 pair m = (m.class, m.index)
 
--- two numbers that a test tells apart
+-- two numbers that a test finds unequal
 apart : (a b : ℕ) → (a == b) ≡ false → a ≡ b → ⊥
 apart a b differs same = let both : true ≡ false = sym (eq-eqb a b same) ∙ differs in cc
 
