@@ -1,17 +1,19 @@
 -- Lists of methods, class by class.
-use Rattle.std.proofs.Common.{◌≡◌, ◌<◌, ◌+◌, ℕ, zero, suc, List, [], ◌∷◌, ◌++◌, length, take, slice_get, Option, Some, None, option_map, option_and_then, refl, sym, ap, subst, ◌∙◌, arith}
+use Rattle.std.proofs.Common.{◌≡◌, ◌<◌, ◌≤◌, ◌+◌, ◌-◌, ℕ, nat_lt, true, false, if◌then◌else◌, zero, suc, List, [], ◌∷◌, ◌++◌, length, take, slice_get, Option, Some, None, option_map, option_and_then, refl, sym, ap, subst, ◌∙◌, arith}
 use Rattle.std.specs.List.{flat_map}
 use Rattle.std.proofs.lemmas.List.{take_more, length-map, length-append, append-nil}
+use Rattle.std.proofs.lemmas.Bool.{lt-ltb, le-ltb}
 use Rattle.std.proofs.lemmas.Grind.{flat_map-append}
 use Rattle.std.proofs.lemmas.Option.{slice_get-map, slice_get_within, get_or_from_slice_get}
 use Rattle.cil_model.specs.declared.types.ClassName.{ClassName}
 use Rattle.cil_model.specs.declared.trees.Tree.{Tree}
 use Rattle.cil_model.specs.declared.trees.Method.{Method}
 use Rattle.cil_model.specs.Declarations.{Declaration}
+use Rattle.name_tables.specs.declared.ids.MethodId.{MethodId}
 use Rattle.name_tables.specs.Numbers.{declarations, method_at}
 use Rattle.name_tables.proofs.NumberLaws.{none_is_some}
 use Rattle.resolved_code.specs.Resolved.{AllAlike}
-use Rattle.loaded_program.specs.AllMethods.{owned_methods, all_methods, flat_number, first_numbers}
+use Rattle.loaded_program.specs.AllMethods.{owned_methods, all_methods, flat_number, first_numbers, id_among, method_id}
 use Rattle.cil_model.proofs.Lists.{get_before}
 
 -- ---- lists whose items stand in a relation
@@ -78,6 +80,36 @@ flat_found next (e ∷ es) (suc n) p found h =
     let index : (length e.1.methods + further.0) + p ≡ length (owned_methods e) + (further.0 + p) = omega arith in
     (length e.1.methods + further.0, counted, further.2 ∙ ap Some first, after_from (owned_methods e) (flat_map owned_methods es) (further.0 + p) ((length e.1.methods + further.0) + p) index ∙ further.3)
 
+-- an index among the methods of the first of some classes, and one after them
+id_in_first : (class : ℕ) (e : ClassName × Declaration) (es : List (ClassName × Declaration)) (index : ℕ) → index < length e.1.methods → id_among class (e ∷ es) index ≡ record { class = class; index = index }
+id_in_first class e es index below =
+    ap (λ b. if b then record { class = class; index = index } else id_among (class + 1) es (index - length e.1.methods)) (lt-ltb index (length e.1.methods) below)
+
+id_in_others : (class : ℕ) (e : ClassName × Declaration) (es : List (ClassName × Declaration)) (index : ℕ) → length e.1.methods ≤ index → id_among class (e ∷ es) index ≡ id_among (class + 1) es (index - length e.1.methods)
+id_in_others class e es index above =
+    ap (λ b. if b then record { class = class; index = index } else id_among (class + 1) es (index - length e.1.methods)) (le-ltb index (length e.1.methods) above)
+
+-- the id of a method of a class that follows some others
+id_found : (class : ℕ) (es : List (ClassName × Declaration)) (n p : ℕ) (found : ClassName × Method) → option_and_then (of_class p) (slice_get es n) ≡ Some found →
+    id_among class es (length (flat_map owned_methods (take n es)) + p) ≡ record { class = class + n; index = p }
+id_found class [] n p found h = absurd (none_is_some found h)
+id_found class (e ∷ es) zero p found h =
+    let within : p < length (owned_methods e) = slice_get_within (owned_methods e) p found (slice_get-map (λ m. (e.0, m)) e.1.methods p ∙ h) in
+    let own : length (owned_methods e) ≡ length e.1.methods = owned_count e in
+    let below : p < length e.1.methods = omega (arith, within, own) in
+    let index : 0 + p ≡ p = omega arith in
+    let itself : class ≡ class + 0 = omega arith in
+    ap (id_among class (e ∷ es)) index ∙ id_in_first class e es p below ∙ ap (λ k. record { class = k; index = p }) itself
+id_found class (e ∷ es) (suc n) p found h =
+    let later = length (flat_map owned_methods (take n es)) in
+    let own : length (owned_methods e) ≡ length e.1.methods = owned_count e in
+    let both : length (owned_methods e ++ flat_map owned_methods (take n es)) ≡ length (owned_methods e) + later = length-append (owned_methods e) (flat_map owned_methods (take n es)) in
+    let index = length (owned_methods e ++ flat_map owned_methods (take n es)) + p in
+    let above : length e.1.methods ≤ index = omega (arith, own, both) in
+    let rest : index - length e.1.methods ≡ later + p = omega (arith, own, both) in
+    let further : (class + 1) + n ≡ class + suc n = omega arith in
+    id_in_others class e es index above ∙ ap (id_among (class + 1) es) rest ∙ id_found (class + 1) es n p found h ∙ ap (λ k. record { class = k; index = p }) further
+
 module _ (tree : Tree) (n p : ℕ) (found : ClassName × Method) (h : method_at tree (n, p) ≡ Some found) where
   abbrev flat : FoundFlat 0 (declarations tree) n p found
   flat = flat_found 0 (declarations tree) n p found h
@@ -103,3 +135,9 @@ module _ (tree : Tree) (n p : ℕ) (found : ClassName × Method) (h : method_at 
   method_of_number =
       let index : flat_number tree n p ≡ flat.0 + p = omega (arith, flat.1) in
       ap (slice_get (all_methods tree)) index ∙ flat.3
+
+  -- and that number is the one of its id
+  pub id_of_flat_number : method_id tree (flat_number tree n p) ≡ record { class = n; index = p }
+  id_of_flat_number =
+      let itself : 0 + n ≡ n = omega arith in
+      id_found 0 (declarations tree) n p found h ∙ ap (λ k. record { class = k; index = p }) itself

@@ -14,12 +14,13 @@ use Rattle.cil_model.specs.Chains.{listed_by, methods_declared}
 use Rattle.cil_model.specs.Legality.{IsLegal, has_repeat, same_method, class_doubles, doubles_name}
 use Rattle.cil_model.proofs.Lists.{passes_not}
 use Rattle.cil_model.proofs.SameLaws.{never, both_first, both_second, same_class_itself, same_method_name_itself, same_signature_itself}
+use Rattle.name_tables.specs.declared.ids.MethodId.{MethodId}
 use Rattle.name_tables.specs.Numbers.{declarations, class_number, source_entry, method_at}
 use Rattle.name_tables.proofs.NumberLaws.{HasId, has_id, none_is_some, position_from-suc}
 use Rattle.resolved_code.proofs.ListLaws.Repeats.{has_repeat-map}
-use Rattle.loaded_program.specs.AllMethods.{owned_methods, all_methods, first_numbers}
+use Rattle.loaded_program.specs.AllMethods.{owned_methods, all_methods, first_numbers, flat_number, method_id}
 use Rattle.loaded_program.specs.MethodNumbers.{number_of}
-use Rattle.loaded_program.proofs.FlatLaws.{id_at, first_is_there, number_after}
+use Rattle.loaded_program.proofs.FlatLaws.{id_at, id_of_flat_number, method_of_number, first_is_there, number_after}
 
 -- ---- lists in which no item stands twice
 
@@ -115,6 +116,15 @@ module _ (tree : Tree) where
   -- a method's index is its number
   pub number_of_index : IsLegal tree → (n : ℕ) (found : ClassName × Method) → slice_get (all_methods tree) n ≡ Some found → number_of tree found ≡ Some n
   number_of_index legal n found h = found_first same_found same_found_itself (all_methods tree) n found (once_in_all legal) h
+
+  -- the id of the method with a number is the one whose method stands there
+  pub id_of_number : IsLegal tree → (number : ℕ) (found : ClassName × Method) → slice_get (all_methods tree) number ≡ Some found → (id : MethodId) → method_at tree (id.class, id.index) ≡ Some found → id ≡ method_id tree number
+  id_of_number legal number found at id named =
+      let first = number_of_index legal number found at in
+      let flat = number_of_index legal (flat_number tree id.class id.index) found (method_of_number tree id.class id.index found named) in
+      let both : Some (flat_number tree id.class id.index) ≡ Some number = sym flat ∙ first in
+      let same : flat_number tree id.class id.index ≡ number = cc in
+      sym (id_of_flat_number tree id.class id.index found named) ∙ ap (method_id tree) same
 
   -- each method that a class declares has an index
   pub index_of_declared : (k : ℕ) (found : ClassName × Method) → slice_get (methods_declared tree found.0) k ≡ Some found.1 → (n : ℕ) × (slice_get (all_methods tree) n ≡ Some found)

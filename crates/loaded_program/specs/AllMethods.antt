@@ -1,9 +1,10 @@
 -- All methods of a tree, by flat numbers.
-use Rattle.std.specs.Prelude.{ℕ, ◌+◌, List, [], ◌∷◌, length, map, flat_map, take}
+use Rattle.std.specs.Prelude.{ℕ, ◌+◌, ◌-◌, if◌then◌else◌, nat_lt, List, [], ◌∷◌, length, map, flat_map, take}
 use Rattle.cil_model.specs.declared.types.ClassName.{ClassName}
 use Rattle.cil_model.specs.declared.trees.Tree.{Tree}
 use Rattle.cil_model.specs.declared.trees.Method.{Method}
 use Rattle.cil_model.specs.Declarations.{Declaration}
+use Rattle.name_tables.specs.declared.ids.MethodId.{MethodId}
 use Rattle.name_tables.specs.Numbers.{declarations}
 
 -- the methods that a class itself declares, each with the class's name
@@ -22,3 +23,12 @@ flat_number tree n p = length (flat_map owned_methods (take n (declarations tree
 abbrev pub first_numbers : ℕ → List (ClassName × Declaration) → List ℕ
 first_numbers next [] = []
 first_numbers next (e ∷ es) = next ∷ first_numbers (next + length e.1.methods) es
+
+-- the id of the method at an index among those of these classes, whose first one has this number
+abbrev pub id_among : ℕ → List (ClassName × Declaration) → ℕ → MethodId
+id_among class [] index = record { class = class; index = index }
+id_among class (e ∷ es) index = if nat_lt index (length e.1.methods) then record { class = class; index = index } else id_among (class + 1) es (index - length e.1.methods)
+
+-- the id of the method with a flat number
+abbrev pub method_id : Tree → ℕ → MethodId
+method_id tree number = id_among 0 (declarations tree) number

@@ -7,7 +7,7 @@ ghost use Rattle.cil_model.specs.Slots.{target};
 ghost use Rattle.name_tables.specs.Numbers.{method_at};
 ghost use Rattle.resolved_code.specs.ById.{class_name};
 ghost use Rattle.class_layout.specs.Laid.{IsLayout};
-ghost use Rattle.loaded_program.specs.AllMethods.{all_methods};
+ghost use Rattle.loaded_program.specs.AllMethods.{all_methods, method_id};
 ghost use Rattle.loaded_program.specs.MethodNumbers.{number_of};
 ghost use Rattle.loaded_program.specs.Loaded.{IsCode, IsLinkedAt, IsLoadedMethod, line_in, target_in};
 
@@ -95,6 +95,7 @@ impl LoadedProgram {
         requires { IsSome (slice_get (all_methods self.now) number) }
         ensures loaded { (found : ClassName × Method) → slice_get (all_methods self.now) number ≡ Some found → IsLoadedMethod self.now found result.now }
         ensures number { (found : ClassName × Method) → slice_get (all_methods self.now) number ≡ Some found → number_of self.now found ≡ Some number }
+        ensures id { result.now.member ≡ method_id self.now number }
     {
         self.parts.method(number)
     }

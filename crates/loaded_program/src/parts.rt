@@ -6,7 +6,7 @@ ghost use Rattle.cil_model.specs.declared.types.ClassName.{ClassName};
 ghost use Rattle.name_tables.specs.Numbers.{method_at};
 ghost use Rattle.class_layout.specs.Laid.{IsLayout};
 ghost use Rattle.resolved_code.specs.Resolved.{AllAlike};
-ghost use Rattle.loaded_program.specs.AllMethods.{all_methods};
+ghost use Rattle.loaded_program.specs.AllMethods.{all_methods, method_id};
 ghost use Rattle.loaded_program.specs.MethodNumbers.{number_of};
 ghost use Rattle.loaded_program.specs.Loaded.{AreMethodNumbers, IsLoadedMethod};
 
@@ -121,6 +121,7 @@ impl Parts {
         requires { IsSome (slice_get (all_methods self.now) number) }
         ensures loaded { (found : ClassName × Method) → slice_get (all_methods self.now) number ≡ Some found → IsLoadedMethod self.now found result.now }
         ensures number { (found : ClassName × Method) → slice_get (all_methods self.now) number ≡ Some found → number_of self.now found ≡ Some number }
+        ensures id { result.now.member ≡ method_id self.now number }
     {
         item(self.methods.as_slice(), number)
     }
