@@ -347,13 +347,13 @@ request_by words =
     if begins_with_source words then threads_in (matches_of threads_app words)
     else request_in (subcommand_of cilvm_app words)
 
--- what clap has against the words, a wish for help or for the version among it
+-- what clap reports of the arguments, a request for help or for the version among it
 abbrev pub faults_of : List Text → Kinds
 faults_of words = if begins_with_source words then fault_of threads_app words else fault_of cilvm_app words
 
--- a mistake is among what clap has against the words
-abbrev pub HasMistake : Kinds → Type 0
-HasMistake faults = (k : ErrorKind) × IsAmong k faults × (k ≢ DisplayHelp) × (k ≢ DisplayVersion)
+-- an error is among what clap reports of the arguments
+abbrev pub HasUsageError : Kinds → Type 0
+HasUsageError faults = (k : ErrorKind) × IsAmong k faults × (k ≢ DisplayHelp) × (k ≢ DisplayVersion)
 
 -- ---- the answer
 
@@ -373,7 +373,7 @@ IsOfNone requested _ = ⊥
 abbrev pub Refuses : Kinds → Option Request → LineFault → Type 0
 Refuses faults requested (Help text) = IsAmong DisplayHelp faults
 Refuses faults requested (Version text) = IsAmong DisplayVersion faults
-Refuses faults requested (Bad text) = HasMistake faults ⊎ (requested ≡ None)
+Refuses faults requested (Bad text) = HasUsageError faults ⊎ (requested ≡ None)
 Refuses faults requested Memory = ⊤
 
 -- Ok comes where clap has nothing against the words, and holds what they ask for

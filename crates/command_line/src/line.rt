@@ -27,7 +27,7 @@ pub enum LineFault {
     Help(String),
     /// The version was asked for: the text for the standard output.
     Version(String),
-    /// The words have a mistake: the text for the standard error.
+    /// The arguments are wrong: the text for the standard error.
     Bad(String),
     /// Memory ran out.
     Memory,
@@ -157,15 +157,15 @@ fn line_fault(alloc: Global, error: &Error) -> LineFault
     }
 }
 
-/// What clap prints of an error, but for its tip how to pass an option that there is not as a value: no one means that. The only error is
+/// What clap prints of an error, without its tip on how to pass an unknown option as a value, which nobody means. The only error is
 /// out of memory.
 fn error_text(alloc: Global, error: &Error) -> Result<String, AllocError> {
     let text = error.to_string(alloc)?;
-    let Some((mistake, tip)) = text.as_str().split_once("\n\n  tip: to pass '") else {
+    let Some((message, tip)) = text.as_str().split_once("\n\n  tip: to pass '") else {
         return Ok(text);
     };
     match tip.split_once("\n\nUsage: ") {
-        Some((_, usage)) => format!(in alloc; "{mistake}\n\nUsage: {usage}"),
+        Some((_, usage)) => format!(in alloc; "{message}\n\nUsage: {usage}"),
         None => Ok(text),
     }
 }

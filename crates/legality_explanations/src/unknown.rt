@@ -21,11 +21,11 @@ use std::fmt;
 /// What a class is named as.
 #[derive(Clone, Copy)]
 pub enum Role {
-    /// Behind `extends`.
+    /// After `extends`.
     Base,
-    /// Behind `implements`.
+    /// After `implements`.
     Interface,
-    /// Behind `class` in a type.
+    /// After `class` in a type.
     Type,
     /// Before `::`.
     Owner,

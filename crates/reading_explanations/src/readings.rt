@@ -69,7 +69,7 @@ fn kind_of(token: &[u8]) -> &'static str {
 /// What is wrong at a position of a source without a tree. It prints as one sentence without an end.
 #[derive(Clone, Copy)]
 enum Unread<'a> {
-    /// So many bytes.
+    /// The number of bytes, which is too large.
     TooLong(usize),
     Foreign(u8),
     /// No token begins with these bytes: all from there on, and what a token of them would be.
