@@ -10,11 +10,8 @@ use Rattle.cil_model.specs.declared.reports.Report.TheVariants.{Ran}
 use Rattle.cil_model.specs.declared.trees.Tree.{Tree}
 use Rattle.interleaving_core.specs.Loans.{Begins, IsAtOrigin, Lent, RanInPlace}
 use Rattle.interleaving_core.specs.simulation.threads_monitors.Threads.{is_live_at}
-use Rattle.object_memory.specs.Objects.{no_objects}
 use Rattle.interleaving_core.specs.Histories.{DoesMore}
 use Rattle.interleaving_core.specs.simulation.MachineStates.{MachineState}
-use Rattle.interleaving_core.specs.simulation.collector.Phases.{no_progress}
-use Rattle.interleaving_core.specs.simulation.phase_handshake.Handshakes.{first_handshakes}
 use Rattle.interleaving_core.specs.simulation.Runs.{AreTransitions, FollowsReference}
 use Rattle.interleaving_core.specs.simulation.Transitions.{IsTransition}
 use Rattle.shared_machine.specs.Counts.{Count}
@@ -23,19 +20,6 @@ use Rattle.shared_machine.specs.Histories.{AreOf, entry, events_of, reports_of, 
 use Rattle.shared_machine.specs.declared.answer.Answer.{Answer}
 use Rattle.shared_machine.specs.declared.answer.Answer.TheVariants.{Did, NoMemory, Away}
 use Rattle.shared_machine.specs.declared.history.Entry.{Entry}
-
--- the state of no machine
-abbrev pub no_machine_state : MachineState
-no_machine_state = record {
-  tree = record { externs = []; assembly = None; classes = [] };
-  limits = record { words = 0; max_words = 0; budget = 0; depth = 0 };
-  threads = [];
-  posts = first_handshakes;
-  progress = no_progress;
-  objects = no_objects 0 0;
-  statics = [];
-  printed = [];
-}
 
 -- the machine, the history, the book of the workers' counts, of each thread that may be whether it is lent, and the stop mark
 pub record Shown : Type 0 where

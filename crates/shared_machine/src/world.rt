@@ -42,7 +42,7 @@ pub trait Initial: TableName {
 
 impl Initial for Brand {
     ghost use Rattle.std.specs.Prelude.{None};
-    ghost use Rattle.shared_machine.specs.Worlds.{no_machine_state};
+    ghost use Rattle.interleaving_core.specs.Beginnings.{no_machine_state};
 
     ghost initial_state = { no_machine_state };
 
