@@ -50,7 +50,7 @@ end_lines t why at line (Some awaited) =
 -- the same, of the machine state before the thread's last step, for a program with this source
 abbrev pub end_text : List ℕ → MachineState → EarlyEnd → List ℕ
 end_text source c e =
-    let at = position_at c.threads e.thread in
+    let at = position_at c.tree c.threads e.thread in
     end_lines e.thread e.cause (option_and_then (found_at c.tree) at) (option_and_then (line_of source) at) (option_map (wait_text c) (wait_at c e.thread))
 
 -- the line of a caller

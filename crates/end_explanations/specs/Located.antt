@@ -1,22 +1,17 @@
 -- Instructions with their lines of the source, as they are printed (this profile).
-use Rattle.std.specs.Prelude.{◌++◌, ◌-◌, ◌∷◌, [], ℕ, if◌then◌else◌, List, length, nat_lt, Option, Some, None, codes, decimal, option_and_then, slice_get}
+use Rattle.std.specs.Prelude.{◌++◌, ◌-◌, [], ℕ, if◌then◌else◌, List, nat_lt, Option, Some, None, codes, decimal, slice_get}
 use Rattle.cil_model.specs.Bodies.{lines_of}
-use Rattle.cil_model.specs.Declarations.{Declaration, built_ins}
 use Rattle.cil_model.specs.declared.trees.Method.{Method}
 use Rattle.cil_model.specs.declared.types.ClassName.{ClassName}
 use Rattle.event_trace.specs.Columns.{line_text}
 use Rattle.event_trace.specs.interleaving_core.declared.positions.Position.{Position}
+use Rattle.name_tables.specs.declared.ids.TheConstants.{FIRST_OF_SOURCE}
 use Rattle.instruction_text.specs.Texts.{class_text, method_name_text}
 use Rattle.source_lines.specs.Lines.{instruction_line}
 
--- the index among the methods of the source of a method by its number among all, where those of these classes come first
-abbrev pub method_after : List (ClassName × Declaration) → ℕ → Option ℕ
-method_after [] n = Some n
-method_after (e ∷ es) n = if nat_lt n (length e.1.methods) then None else method_after es (n - length e.1.methods)
-
 -- the line of the instruction at a position, in the source of the program; a method of a built-in class has none
 abbrev pub line_of : List ℕ → Position → Option ℕ
-line_of source p = option_and_then (λ method. instruction_line source method p.pc) (method_after built_ins p.method)
+line_of source p = if nat_lt p.method.class FIRST_OF_SOURCE then None else instruction_line source (p.method.class - FIRST_OF_SOURCE) p.method.index p.pc
 
 abbrev pub line_note : Option ℕ → List ℕ
 line_note None = []

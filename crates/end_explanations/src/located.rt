@@ -1,18 +1,16 @@
 //! Instructions with their lines of the source.
 
-ghost use Rattle.std.specs.Prelude.{◌≡◌, IfOk, map, option_and_then, option_map};
-ghost use Rattle.cil_model.specs.Declarations.{built_ins};
+ghost use Rattle.std.specs.Prelude.{◌≡◌, IfOk, option_and_then, option_map};
 ghost use Rattle.event_trace.specs.Columns.{found_at};
 ghost use Rattle.event_trace.specs.Lines.{method_and_pc};
 ghost use Rattle.event_trace.specs.MethodPositions.{ArePositionsOf};
-ghost use Rattle.name_tables.specs.BuiltInTable.{built_in_entry};
-ghost use Rattle.end_explanations.specs.Located.{method_after, line_of};
+ghost use Rattle.end_explanations.specs.Located.{line_of};
 
 use crate::names::Names;
 use cil_model::memory::NoMemory;
 use event_trace::{InstructionPosition, LineText, Machine, Position, instruction_at, line_at};
 use instruction_text::MethodNameText;
-use name_tables::built_in::BuiltInClass;
+use name_tables::ids::{FIRST_OF_SOURCE, MethodId};
 use std::fmt;
 
 /// An instruction by its position, and its line of the source, where that is known.
@@ -67,38 +65,29 @@ pub(crate) fn locate<'a>(
     names: &'a Names<'_>,
     position: Option<Position>,
 ) -> Result<Located<'a>, NoMemory>
-    requires positions { ArePositionsOf machine.now.tree names.now.methods }
-    requires classes { map built_in_entry names.now.classes ≡ built_ins }
+    requires { ArePositionsOf machine.now.tree names.now.methods }
     ensures at { IfOk result (λ l. option_map method_and_pc l.at ≡ option_and_then (found_at machine.now.tree) position) }
     ensures line { IfOk result (λ l. l.line ≡ option_and_then (line_of names.now.lines) position) }
 {
+    let Some(position) = position else {
+        return Ok(Located {
+            at: None,
+            line: None,
+        });
+    };
     Ok(Located {
         line: line_of(names, position)?,
-        at: instruction_at(machine, &names.methods, position),
+        at: instruction_at(machine, &names.methods, Some(position)),
     })
 }
 
-/// The line of the instruction at a position.
-fn line_of(names: &Names<'_>, position: Option<Position>) -> Result<Option<usize>, NoMemory>
-    requires { map built_in_entry names.now.classes ≡ built_ins }
-    ensures { IfOk result (λ line. line ≡ option_and_then (line_of names.now.lines) position) }
+/// The line of the instruction at a position. None of a method of a built-in class.
+fn line_of(names: &Names<'_>, position: Position) -> Result<Option<usize>, NoMemory>
+    ensures { IfOk result (λ line. line ≡ line_of names.now.lines position) }
 {
-    let Some(position) = position else {
-        return Ok(None);
-    };
-    match method_after(names.classes.as_slice(), position.method as usize) {
+    let MethodId { class, index } = position.method;
+    match class.number().checked_sub(FIRST_OF_SOURCE) {
         None => Ok(None),
-        Some(method) => names.lines.line(method, position.pc as usize),
+        Some(class) => names.lines.line(class, index, position.pc as usize),
     }
-}
-
-/// The index among the methods of the source of a method by its number among all: those of the built-in classes come first. None of one of these.
-fn method_after(classes: &[BuiltInClass], number: usize) -> Option<usize>
-    ensures { result ≡ method_after (map built_in_entry classes.now) number }
-{
-    let mut left = number;
-    for class in classes {
-        left = left.checked_sub(class.methods.as_slice().len())?;
-    }
-    Some(left)
 }

@@ -1,9 +1,7 @@
 //! What is known of a run after some of its events.
 
-ghost use Rattle.std.specs.Prelude.{◌≡◌, ◌++◌, IfOk, OnOk, map, string_bytes};
-ghost use Rattle.cil_model.specs.Declarations.{built_ins};
+ghost use Rattle.std.specs.Prelude.{◌≡◌, ◌++◌, IfOk, OnOk, string_bytes};
 ghost use Rattle.event_trace.specs.MethodPositions.{ArePositionsOf};
-ghost use Rattle.name_tables.specs.BuiltInTable.{built_in_entry};
 ghost use Rattle.end_explanations.specs.Callers.{callers_with, callers_of};
 ghost use Rattle.end_explanations.specs.Replays.{IsEndExplained, beginning, is_new, new_deadlock, printed_after};
 
@@ -81,8 +79,7 @@ impl Progress {
         names: &Names<'_>,
         end: EarlyEnd,
     ) -> Result<(), NoMemory>
-        requires positions { ArePositionsOf machine.now.tree names.now.methods }
-        requires classes { map built_in_entry names.now.classes ≡ built_ins }
+        requires { ArePositionsOf machine.now.tree names.now.methods }
         ensures explained { OnOk result (IsEndExplained names.now.lines machine.now self.old end self.new) }
         ensures same { OnOk result (self.new.callers ≡ self.old.callers) }
     {

@@ -2,9 +2,7 @@
 
 ghost use Rattle.std.specs.Prelude.{◌≡◌, IfOk, OnOk, map, replicate, string_bytes, true};
 ghost use Rattle.std.specs.List.{zip};
-ghost use Rattle.cil_model.specs.Declarations.{built_ins};
 ghost use Rattle.event_trace.specs.MethodPositions.{ArePositionsOf};
-ghost use Rattle.name_tables.specs.BuiltInTable.{built_in_entry};
 ghost use Rattle.shared_machine.specs.Histories.{events_of, plain, reports_of};
 ghost use Rattle.end_explanations.specs.Replays.{AreEndsExplained, AreReplayed, IsReplayed, pair_of};
 ghost use Rattle.end_explanations.specs.declared.replaying.ReplayError.TheVariants.{Memory as MemoryRanOut};
@@ -94,7 +92,6 @@ fn replay_run(
     progress: &mut Progress,
 ) -> Result<(), ReplayError>
     requires positions { ArePositionsOf machine.old.tree names.now.methods }
-    requires classes { map built_in_entry names.now.classes ≡ built_ins }
     requires budget { machine.old.limits.budget ≡ budget }
     ensures replayed { OnOk result (AreReplayed names.now.lines machine.old progress.old (map pair_of (replicate run.now.times run.now.entry)) machine.new progress.new) }
     ensures same { OnOk result ((machine.new.tree ≡ machine.old.tree) × (machine.new.limits ≡ machine.old.limits)) }
@@ -115,7 +112,6 @@ fn replay_event(
     progress: &mut Progress,
 ) -> Result<(), ReplayError>
     requires positions { ArePositionsOf machine.old.tree names.now.methods }
-    requires classes { map built_in_entry names.now.classes ≡ built_ins }
     requires budget { machine.old.limits.budget ≡ budget }
     ensures replayed { OnOk result (IsReplayed names.now.lines machine.old progress.old (pair_of entry.now) machine.new progress.new) }
     ensures same { OnOk result ((machine.new.tree ≡ machine.old.tree) × (machine.new.limits ≡ machine.old.limits)) }

@@ -1,10 +1,8 @@
 //! What is printed of a thread that ended.
 
-ghost use Rattle.std.specs.Prelude.{◌≡◌, ◌++◌, ◌-◌, ◌<◌, [], OnOk, length, map, slice_get, string_bytes};
+ghost use Rattle.std.specs.Prelude.{◌≡◌, ◌++◌, ◌-◌, ◌<◌, [], OnOk, length, slice_get, string_bytes};
 ghost use Rattle.std.specs.Option.{option_map_or};
-ghost use Rattle.cil_model.specs.Declarations.{built_ins};
 ghost use Rattle.event_trace.specs.MethodPositions.{ArePositionsOf};
-ghost use Rattle.name_tables.specs.BuiltInTable.{built_in_entry};
 ghost use Rattle.end_explanations.specs.Ends.{caller_text, callers_text, end_text, more_text};
 
 use crate::ends::{Cause, EarlyEnd};
@@ -60,8 +58,7 @@ pub(crate) fn add_end(
     names: &Names<'_>,
     end: EarlyEnd,
 ) -> Result<(), NoMemory>
-    requires positions { ArePositionsOf machine.now.tree names.now.methods }
-    requires classes { map built_in_entry names.now.classes ≡ built_ins }
+    requires { ArePositionsOf machine.now.tree names.now.methods }
     ensures { OnOk result (string_bytes text.new ≡ string_bytes text.old ++ end_text names.now.lines machine.now end) }
 {
     let EarlyEnd { thread, cause } = end;
@@ -69,7 +66,7 @@ pub(crate) fn add_end(
         thread,
         cause,
         at: locate(machine, names, machine.position_of(thread))?,
-        awaited: awaited_by(machine, names.classes.as_slice(), thread),
+        awaited: awaited_by(machine, &names.methods, thread),
     };
     write!(text, "{lines}")?;
     Ok(())
@@ -82,8 +79,7 @@ pub(crate) fn add_callers(
     names: &Names<'_>,
     callers: &[Position],
 ) -> Result<(), NoMemory>
-    requires positions { ArePositionsOf machine.now.tree names.now.methods }
-    requires classes { map built_in_entry names.now.classes ≡ built_ins }
+    requires { ArePositionsOf machine.now.tree names.now.methods }
     ensures { OnOk result (string_bytes text.new ≡ string_bytes text.old ++ callers_text names.now.lines machine.now callers.now) }
 {
     let printed = callers.len().min(MOST_CALLERS);
@@ -102,7 +98,6 @@ fn add_caller_at(
     inner: usize,
 ) -> Result<(), NoMemory>
     requires positions { ArePositionsOf machine.now.tree names.now.methods }
-    requires classes { map built_in_entry names.now.classes ≡ built_ins }
     requires within { inner < length callers.now }
     ensures { OnOk result (string_bytes text.new ≡ string_bytes text.old ++ option_map_or (caller_text names.now.lines machine.now) (slice_get callers.now (length callers.now - 1 - inner)) []) }
 {
@@ -129,8 +124,7 @@ fn add_caller(
     names: &Names<'_>,
     caller: Position,
 ) -> Result<(), NoMemory>
-    requires positions { ArePositionsOf machine.now.tree names.now.methods }
-    requires classes { map built_in_entry names.now.classes ≡ built_ins }
+    requires { ArePositionsOf machine.now.tree names.now.methods }
     ensures { OnOk result (string_bytes text.new ≡ string_bytes text.old ++ caller_text names.now.lines machine.now caller) }
 {
     let at = locate(machine, names, Some(caller))?;

@@ -1,108 +1,93 @@
--- The positions of methods, as they are listed one by one.
-use Rattle.std.proofs.Common.{◌≡◌, ◌+◌, ◌<◌, ◌≤◌, ◌⊎◌, ℕ, zero, suc, List, [], ◌∷◌, ◌++◌, length, take, get_or, map, Option, Some, None, inl, inr, refl, sym, ap, subst, ◌∙◌, arith, append-nil, append_assoc}
+-- The methods of a program are where their positions say.
+use Rattle.std.proofs.Common.{Global, Vec, ◌≡◌, ◌+◌, ◌<◌, ℕ, zero, suc, List, [], ◌∷◌, ◌++◌, length, get_or, drop, map, filter_map, Option, Some, None, refl, sym, ap, ◌∙◌, arith, append_assoc}
 use Rattle.std.specs.Prelude.{option_and_then, option_map, slice_get}
-use Rattle.std.proofs.lemmas.Grind.{flat_map-append}
+use Rattle.std.proofs.lemmas.List.{at_drop_more}
 use Rattle.cil_model.specs.declared.trees.Member.{Member}
 use Rattle.cil_model.specs.declared.trees.Member.TheVariants.{Field as FieldMember, Method as MethodMember}
-use Rattle.name_tables.proofs.Lists.{filter_map-take_more, map-take_more}
-use Rattle.event_trace.proofs.Names.{filter_map, flat_map, map-append, slice_get_cases, slice_get_read, ClassName, Tree, Class, Method, Declaration, built_ins, as_method, source_name, source_entry, all_methods, owned_methods, built_in_method, method_by, methods_by, source_method, MethodPosition, BuiltIn, Source}
+use Rattle.event_trace.proofs.Names.{slice_get-map, length-append, ClassName, Tree, Class, Method, Declaration, built_ins, built_in_entry, as_method, source_name, source_entry, method_at, built_in_method, method_indices, source_method, MethodPositions, ArePositionsOf, FIRST_OF_SOURCE}
 
--- ---- lists whose items correspond one by one to those of another list
+-- ---- one list after another
 
--- the item of a number
-pub at_number : {P X : Type 0} (f : P → Option X) (ps : List P) (xs : List X) (n : ℕ) → map f ps ≡ map Some xs → option_and_then f (slice_get ps n) ≡ slice_get xs n
-at_number f [] [] n e = refl
-at_number f [] (x ∷ xs) n e = absurd cc
-at_number f (p ∷ ps) [] n e = absurd cc
-at_number {X = X} f (p ∷ ps) (x ∷ xs) zero e = ap first e
+in_first : {X : Type 0} (xs ys : List X) (n : ℕ) → n < length xs → slice_get (xs ++ ys) n ≡ slice_get xs n
+in_first [] ys n below = absurd (omega (arith, below))
+in_first (x ∷ xs) ys zero below = refl
+in_first (x ∷ xs) ys (suc n) below = in_first xs ys n (omega (arith, below))
+
+in_second : {X : Type 0} (xs ys : List X) (n k : ℕ) → n ≡ length xs + k → slice_get (xs ++ ys) n ≡ slice_get ys k
+in_second [] ys n k e = let same : n ≡ k = omega (arith, e) in ap (slice_get ys) same
+in_second (x ∷ xs) ys zero k e = absurd (omega (arith, e))
+in_second (x ∷ xs) ys (suc n) k e = in_second xs ys n k (omega (arith, e))
+
+-- ---- the methods among members
+
+-- the member at an index that is listed is the method, where other members come before
+is_listed : (before members : List Member) (n : ℕ) → n ≡ length before → (p : ℕ) →
+    option_and_then (λ i. option_and_then as_method (slice_get (before ++ members) i)) (slice_get (method_indices n members) p) ≡ slice_get (filter_map as_method members) p
+is_listed before [] n e p = refl
+is_listed before (FieldMember f ∷ members) n e p =
+    let one : length (before ++ FieldMember f ∷ []) ≡ length before + 1 = length-append before (FieldMember f ∷ []) in
+    let next : n + 1 ≡ length (before ++ FieldMember f ∷ []) = omega (arith, e, one) in
+    ap (λ all. option_and_then (λ i. option_and_then as_method (slice_get all i)) (slice_get (method_indices (n + 1) members) p)) (sym (append_assoc before (FieldMember f ∷ []) members))
+    ∙ is_listed (before ++ FieldMember f ∷ []) members (n + 1) next p
+is_listed before (MethodMember m ∷ members) n e zero =
+    let here : n ≡ length before + 0 = omega (arith, e) in
+    ap (option_and_then as_method) (in_second before (MethodMember m ∷ members) n 0 here)
+is_listed before (MethodMember m ∷ members) n e (suc p) =
+    let one : length (before ++ MethodMember m ∷ []) ≡ length before + 1 = length-append before (MethodMember m ∷ []) in
+    let next : n + 1 ≡ length (before ++ MethodMember m ∷ []) = omega (arith, e, one) in
+    ap (λ all. option_and_then (λ i. option_and_then as_method (slice_get all i)) (slice_get (method_indices (n + 1) members) p)) (sym (append_assoc before (MethodMember m ∷ []) members))
+    ∙ is_listed (before ++ MethodMember m ∷ []) members (n + 1) next p
+
+-- the indices among the members from an index on, where a method is at it, and where it is not
+pub next_method : (i : ℕ) (members : List Member) (x : Member) (m : Method) → i < length members → x ≡ get_or members i x → x ≡ MethodMember m → method_indices i (drop i members) ≡ i ∷ method_indices (i + 1) (drop (i + 1) members)
+next_method i members x m below at is = at_drop_more (method_indices i) members i x below ∙ ap (λ y. method_indices i (y ∷ drop (i + 1) members)) (sym at ∙ is)
+
+pub next_other : (i : ℕ) (members : List Member) (x : Member) → i < length members → x ≡ get_or members i x → ((m : Method) → x ≡ MethodMember m → ⊥) → method_indices i (drop i members) ≡ method_indices (i + 1) (drop (i + 1) members)
+next_other i members x below at absent = at_drop_more (method_indices i) members i x below ∙ ap (λ y. method_indices i (y ∷ drop (i + 1) members)) (sym at) ∙ other x absent
   where
-    first : List (Option X) → Option X
-    first [] = None
-    first (o ∷ os) = o
-at_number {X = X} f (p ∷ ps) (x ∷ xs) (suc n) e = at_number f ps xs n (ap rest e)
-  where
-    rest : List (Option X) → List (Option X)
-    rest [] = []
-    rest (o ∷ os) = os
+    other : (y : Member) → ((m : Method) → y ≡ MethodMember m → ⊥) → method_indices i (y ∷ drop (i + 1) members) ≡ method_indices (i + 1) (drop (i + 1) members)
+    other (FieldMember f) absent = refl
+    other (MethodMember m) absent = absurd (absent m refl)
 
--- one more
-pushed : {P X : Type 0} (f : P → Option X) (so_far more : List P) (p : P) (x : X) → more ≡ so_far ++ p ∷ [] → f p ≡ Some x → map f more ≡ map f so_far ++ map Some (x ∷ [])
-pushed f so_far more p x is found = ap (map f) is ∙ (map-append f so_far (p ∷ []) ∙ ap (λ o. map f so_far ++ o ∷ []) found)
+-- ---- methods by their ids
 
--- some more after those so far
-grown : {P X : Type 0} (f : P → Option X) (before so_far more : List P) (done here : List X) → map f so_far ≡ map f before ++ map Some done → map f more ≡ map f so_far ++ map Some here →
-    map f more ≡ map f before ++ map Some (done ++ here)
-grown f before so_far more done here h k =
-    k ∙ (ap (λ xs. xs ++ map Some here) h ∙ (append_assoc (map f before) (map Some done) (map Some here) ∙ ap (λ xs. map f before ++ xs) (sym (map-append Some done here))))
+module _ (tree : Tree) (p : MethodPositions) (is : ArePositionsOf tree p) where
+  abbrev of : ℕ → ClassName × Declaration → Option (ClassName × Method)
+  of index e = option_map (λ m. (e.0, m)) (slice_get e.1.methods index)
 
--- the positions of these methods follow those before
-abbrev pub Occur : List (ClassName × Declaration) → Tree → List MethodPosition → List MethodPosition → List (ClassName × Method) → Type 0
-Occur first tree before positions done = methods_by first tree positions ≡ methods_by first tree before ++ map Some done
+  -- a method of a built-in class
+  pub built_in_at : (class index : ℕ) → class < FIRST_OF_SOURCE → option_and_then (built_in_method index) (slice_get (map built_in_entry p.built_ins) class) ≡ method_at tree (class, index)
+  built_in_at class index below =
+      ap (λ es. option_and_then (built_in_method index) (slice_get es class)) is.built_ins
+      ∙ sym (ap (option_and_then (of index)) (in_first built_ins (map source_entry tree.classes) class below))
 
--- the methods among the first members of a class
-abbrev pub own_methods : Class → ℕ → List (ClassName × Method)
-own_methods c i = map (λ (m : Method). (source_name c, m)) (filter_map as_method (take i c.members))
+  abbrev indices : Class → List ℕ
+  indices c = method_indices 0 c.members
 
--- a member that is no method
-none_there : (x : Member) → ((m : Method) → x ≡ MethodMember m → ⊥) → filter_map as_method (x ∷ []) ≡ []
-none_there (FieldMember f) absent = refl
-none_there (MethodMember m) absent = absurd (absent m refl)
+  abbrev by_index : ℕ → Option Class → Option (List ℕ) → Option (ClassName × Method)
+  by_index index class row = option_and_then (λ i. option_and_then (source_method i) class) (option_and_then (λ items. slice_get items index) row)
 
-module _ (first : List (ClassName × Declaration)) (tree : Tree) (before so_far more : List MethodPosition) where
-  -- ---- a built-in class
+  own : (c : Class) (o : Option ℕ) → option_and_then (λ i. source_method i c) o ≡ option_map (λ m. (source_name c, m)) (option_and_then (λ i. option_and_then as_method (slice_get c.members i)) o)
+  own c None = refl
+  own c (Some i) = refl
 
-  module _ (e : ClassName × Declaration) (class : ℕ) (there : slice_get first class ≡ Some e) where
-    pub built_in_more : (i : ℕ) → i < length e.1.methods → more ≡ so_far ++ BuiltIn class i ∷ [] → Occur first tree before so_far (map (λ (m : Method). (e.0, m)) (take i e.1.methods)) →
-        Occur first tree before more (map (λ (m : Method). (e.0, m)) (take (i + 1) e.1.methods))
-    built_in_more i below is h = by (slice_get_cases e.1.methods i).1
-      where
-        by : ((m : Method) × (i < length e.1.methods) × (slice_get e.1.methods i ≡ Some m) × (get_or e.1.methods i m ≡ m)) ⊎ ((length e.1.methods ≤ i) × (slice_get e.1.methods i ≡ None)) →
-            Occur first tree before more (map (λ (m : Method). (e.0, m)) (take (i + 1) e.1.methods))
-        by (inr past) = let above = past.0 in absurd (omega (arith, below, above))
-        by (inl found) =
-            let m = found.0 in
-            let here : method_by first tree (BuiltIn class i) ≡ Some (e.0, m) = ap (option_and_then (built_in_method i)) there ∙ ap (option_map (λ (m : Method). (e.0, m))) found.2 in
-            subst (Occur first tree before more) (sym (map-take_more (λ (m : Method). (e.0, m)) e.1.methods i m below (sym found.3)))
-            (grown (method_by first tree) before so_far more (map (λ (m : Method). (e.0, m)) (take i e.1.methods)) ((e.0, m) ∷ []) h (pushed (method_by first tree) so_far more (BuiltIn class i) (e.0, m) is here))
+  of_class : (index : ℕ) (o : Option Class) → by_index index o (option_map indices o) ≡ option_and_then (of index) (option_map source_entry o)
+  of_class index None = refl
+  of_class index (Some c) = own c (slice_get (indices c) index) ∙ ap (option_map (λ m. (source_name c, m))) (is_listed [] c.members 0 refl index)
 
-  -- ---- a class of the source
+  row_of : (rows : List (Vec ℕ Global)) (k index : ℕ) → option_and_then (λ (row : Vec ℕ Global). slice_get row.items index) (slice_get rows k) ≡ option_and_then (λ items. slice_get items index) (slice_get (map (λ (row : Vec ℕ Global). row.items) rows) k)
+  row_of rows k index = by_row (slice_get rows k) ∙ ap (option_and_then (λ items. slice_get items index)) (sym (slice_get-map (λ (row : Vec ℕ Global). row.items) rows k))
+    where
+      by_row : (o : Option (Vec ℕ Global)) → option_and_then (λ (row : Vec ℕ Global). slice_get row.items index) o ≡ option_and_then (λ items. slice_get items index) (option_map (λ (row : Vec ℕ Global). row.items) o)
+      by_row None = refl
+      by_row (Some row) = refl
 
-  module _ (c : Class) (i : ℕ) (x : Member) (below : i < length c.members) (at : x ≡ get_or c.members i x) where
-    next_methods : own_methods c (i + 1) ≡ own_methods c i ++ map (λ (m : Method). (source_name c, m)) (filter_map as_method (x ∷ []))
-    next_methods =
-        ap (map (λ (m : Method). (source_name c, m))) (filter_map-take_more as_method c.members i x below at)
-        ∙ map-append (λ (m : Method). (source_name c, m)) (filter_map as_method (take i c.members)) (filter_map as_method (x ∷ []))
-
-    pub field_more : ((m : Method) → x ≡ MethodMember m → ⊥) → Occur first tree before so_far (own_methods c i) → Occur first tree before so_far (own_methods c (i + 1))
-    field_more absent =
-        subst (Occur first tree before so_far)
-        (sym (next_methods ∙ (ap (λ ms. own_methods c i ++ map (λ (m : Method). (source_name c, m)) ms) (none_there x absent) ∙ append-nil (own_methods c i))))
-
-    pub method_more : (class : ℕ) (m : Method) → slice_get tree.classes class ≡ Some c → x ≡ MethodMember m → more ≡ so_far ++ Source class i ∷ [] →
-        Occur first tree before so_far (own_methods c i) → Occur first tree before more (own_methods c (i + 1))
-    method_more class m there named is h =
-        let member : slice_get c.members i ≡ Some (MethodMember m) = slice_get_read c.members (length c.members) i x refl below at ∙ ap (λ y. Some y) named in
-        let here : method_by first tree (Source class i) ≡ Some (source_name c, m) =
-        ap (option_and_then (source_method i)) there ∙ ap (λ o. option_map (λ (m : Method). (source_name c, m)) (option_and_then as_method o)) member in
-        subst (Occur first tree before more) (sym (next_methods ∙ ap (λ y. own_methods c i ++ map (λ (m : Method). (source_name c, m)) (filter_map as_method (y ∷ []))) named))
-        (grown (method_by first tree) before so_far more (own_methods c i) ((source_name c, m) ∷ []) h (pushed (method_by first tree) so_far more (Source class i) (source_name c, m) is here))
-
-  -- ---- classes
-
-  -- the methods of one class more
-  pub class_more : {A : Type 0} (entry : A → ClassName × Declaration) (xs : List A) (i : ℕ) (x : A) → i < length xs → x ≡ get_or xs i x → methods_by first tree more ≡ methods_by first tree so_far ++ map Some (owned_methods (entry x)) →
-      Occur first tree before so_far (flat_map owned_methods (map entry (take i xs))) → Occur first tree before more (flat_map owned_methods (map entry (take (i + 1) xs)))
-  class_more entry xs i x below at added h =
-      subst (Occur first tree before more)
-      (sym (ap (flat_map owned_methods) (map-take_more entry xs i x below at) ∙ (flat_map-append owned_methods (map entry (take i xs)) (entry x ∷ [])
-      ∙ ap (λ ms. flat_map owned_methods (map entry (take i xs)) ++ ms) (append-nil (owned_methods (entry x))))))
-      (grown (method_by first tree) before so_far more (flat_map owned_methods (map entry (take i xs))) (owned_methods (entry x)) h added)
-
--- the methods of all classes
-pub all_placed : (first : List (ClassName × Declaration)) (tree : Tree) (none one all : List MethodPosition) → first ≡ built_ins → none ≡ [] → Occur first tree none one (flat_map owned_methods first) →
-    Occur first tree one all (flat_map owned_methods (map source_entry tree.classes)) → methods_by first tree all ≡ map Some (all_methods tree)
-all_placed first tree none one all is empty h k =
-    grown (method_by first tree) none one all (flat_map owned_methods first) (flat_map owned_methods (map source_entry tree.classes)) h k
-    ∙ (ap (λ ps. map (method_by first tree) ps ++ map Some (flat_map owned_methods first ++ flat_map owned_methods (map source_entry tree.classes))) empty
-    ∙ ap (map Some)
-    (sym (flat_map-append owned_methods first (map source_entry tree.classes)) ∙ ap (λ (es : List (ClassName × Declaration)). flat_map owned_methods (es ++ map source_entry tree.classes)) is))
+  -- a method of a class of the source
+  pub source_at : (class k index : ℕ) → class ≡ FIRST_OF_SOURCE + k →
+      option_and_then (λ i. option_and_then (source_method i) (slice_get tree.classes k)) (option_and_then (λ (row : Vec ℕ Global). slice_get row.items index) (slice_get p.source.items k)) ≡ method_at tree (class, index)
+  source_at class k index e =
+      ap (option_and_then (λ i. option_and_then (source_method i) (slice_get tree.classes k))) (row_of p.source.items k index)
+      ∙ ap (λ rows. by_index index (slice_get tree.classes k) (slice_get rows k)) is.source
+      ∙ ap (by_index index (slice_get tree.classes k)) (slice_get-map indices tree.classes k)
+      ∙ of_class index (slice_get tree.classes k)
+      ∙ sym (ap (option_and_then (of index)) (in_second built_ins (map source_entry tree.classes) class k e ∙ slice_get-map source_entry tree.classes k))

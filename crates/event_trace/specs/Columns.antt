@@ -15,7 +15,7 @@ use Rattle.cil_model.specs.Bodies.{lines_of}
 use Rattle.cil_model.specs.ExceptionNames.{name_of as fault_text}
 use Rattle.object_memory.specs.Cells.{used_words}
 use Rattle.object_memory.specs.Objects.{used_space}
-use Rattle.interleaving_core.specs.simulation.loaded_program.AllMethods.{all_methods}
+use Rattle.name_tables.specs.Numbers.{method_at}
 use Rattle.interleaving_core.specs.simulation.MachineStates.{MachineState}
 use Rattle.interleaving_core.specs.Positions.{position_at}
 use Rattle.interleaving_core.specs.declared.positions.Position.{Position}
@@ -71,11 +71,11 @@ thread_of Gc = None
 
 -- where the thread of an event is
 abbrev pub position_for : MachineState → Event → Option Position
-position_for c e = option_and_then (position_at c.threads) (thread_of e)
+position_for c e = option_and_then (position_at c.tree c.threads) (thread_of e)
 
--- the method and the pc of a position
+-- the method at a position, with its class, and the pc
 abbrev pub found_at : Tree → Position → Option ((ClassName × Method) × ℕ)
-found_at tree p = option_map (λ (found : ClassName × Method). (found, p.pc)) (slice_get (all_methods tree) p.method)
+found_at tree p = option_map (λ (found : ClassName × Method). (found, p.pc)) (method_at tree (p.method.class, p.method.index))
 
 -- ---- columns
 

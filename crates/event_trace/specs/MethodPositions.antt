@@ -1,17 +1,17 @@
--- Methods of a program by their numbers.
-use Rattle.std.specs.Prelude.{◌≡◌, ℕ, List, map, Option, Some, option_map, option_and_then, slice_get}
+-- Methods of a program by their ids.
+use Rattle.std.specs.Prelude.{◌≡◌, ◌+◌, ◌∷◌, [], ℕ, List, map, Option, Vec, option_map, option_and_then, slice_get}
+use Rattle.std.specs.Global.{Global}
 use Rattle.cil_model.specs.declared.types.ClassName.{ClassName}
+use Rattle.cil_model.specs.declared.trees.Member.{Member}
+use Rattle.cil_model.specs.declared.trees.Member.TheVariants as Members
 use Rattle.cil_model.specs.declared.trees.Tree.{Tree}
 use Rattle.cil_model.specs.declared.trees.Class.{Class}
 use Rattle.cil_model.specs.declared.trees.Method.{Method}
-use Rattle.cil_model.specs.Declarations.{Declaration, as_method, source_name}
+use Rattle.cil_model.specs.Declarations.{Declaration, as_method, built_ins, source_name}
 use Rattle.name_tables.specs.BuiltInTable.{built_in_entry}
-use Rattle.interleaving_core.specs.simulation.loaded_program.AllMethods.{all_methods}
 use Rattle.event_trace.specs.declared.owned_methods.Owner.{Owner}
 use Rattle.event_trace.specs.declared.owned_methods.Owner.TheVariants.{BuiltIn as BuiltInOwner, Source as SourceOwner}
 use Rattle.event_trace.specs.declared.owned_methods.OwnedMethod.{OwnedMethod}
-use Rattle.event_trace.specs.declared.method_positions.MethodPosition.{MethodPosition}
-use Rattle.event_trace.specs.declared.method_positions.MethodPosition.TheVariants.{BuiltIn, Source}
 use Rattle.event_trace.specs.declared.method_positions.MethodPositions.{MethodPositions}
 
 -- ---- methods with the classes that declare them
@@ -33,15 +33,13 @@ built_in_method n e = option_map (λ (m : Method). (e.0, m)) (slice_get e.1.meth
 abbrev pub source_method : ℕ → Class → Option (ClassName × Method)
 source_method n c = option_map (λ (m : Method). (source_name c, m)) (option_and_then as_method (slice_get c.members n))
 
--- the method that is declared there, where these are the built-in classes
-abbrev pub method_by : List (ClassName × Declaration) → Tree → MethodPosition → Option (ClassName × Method)
-method_by first tree (BuiltIn class method) = option_and_then (built_in_method method) (slice_get first class)
-method_by first tree (Source class member) = option_and_then (source_method member) (slice_get tree.classes class)
+-- the indices of the methods among members, of which the first has this index
+abbrev pub method_indices : ℕ → List Member → List ℕ
+method_indices n [] = []
+method_indices n (Members.Field f ∷ ms) = method_indices (n + 1) ms
+method_indices n (Members.Method m ∷ ms) = n ∷ method_indices (n + 1) ms
 
--- the methods at positions
-abbrev pub methods_by : List (ClassName × Declaration) → Tree → List MethodPosition → List (Option (ClassName × Method))
-methods_by first tree positions = map (method_by first tree) positions
-
--- each method of the tree is declared at the position listed at its number
-abbrev pub ArePositionsOf : Tree → MethodPositions → Type 0
-ArePositionsOf tree p = methods_by (map built_in_entry p.built_ins) tree p.positions.items ≡ map Some (all_methods tree)
+-- the built-in classes, and for each class of the tree the indices of its methods
+pub record ArePositionsOf (tree : Tree) (p : MethodPositions) : Type 0 where
+  pub built_ins : map built_in_entry p.built_ins ≡ built_ins
+  pub source : map (λ (row : Vec ℕ Global). row.items) p.source.items ≡ map (λ (c : Class). method_indices 0 c.members) tree.classes

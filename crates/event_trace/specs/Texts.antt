@@ -54,7 +54,7 @@ thread_line t at (Some awaited) = codes "thread " ++ decimal t ++ codes " is at 
 
 -- the line of a live thread; none of another
 abbrev pub thread_lines : MachineState → ℕ → List ℕ
-thread_lines c t = option_map_or (λ (p : Position). thread_line t (found_at c.tree p) (option_map (wait_text c) (wait_at c t))) (position_at c.threads t) []
+thread_lines c t = option_map_or (λ (p : Position). thread_line t (found_at c.tree p) (option_map (wait_text c) (wait_at c t))) (position_at c.tree c.threads t) []
 
 -- those of the threads below a number
 abbrev pub lines_below : MachineState → ℕ → List ℕ

@@ -68,18 +68,18 @@ fn wait_text_of<'a>(
     }
 }
 
-/// What the thread of a number waits for, as a text. None where its next step is not blocked, and where it is not live. `classes` are the built-in ones.
+/// What the thread of a number waits for, as a text. None where its next step is not blocked, and where it is not live.
 pub fn awaited_by<'a>(
     machine: &'a Machine,
-    classes: &'a [BuiltInClass],
+    methods: &'a MethodPositions,
     thread: u8,
 ) -> Option<AwaitedText<'a>>
-    requires { map built_in_entry classes.now ≡ built_ins }
+    requires { ArePositionsOf machine.now.tree methods.now }
     ensures { option_map awaited_text result ≡ option_map (wait_text machine.now) (wait_at machine.now thread) }
 {
     match machine.wait_of(thread) {
         None => None,
-        Some(wait) => Some(wait_text_of(machine, classes, wait)),
+        Some(wait) => Some(wait_text_of(machine, methods.built_ins(), wait)),
     }
 }
 
@@ -88,11 +88,9 @@ fn add_thread(
     text: &mut String,
     machine: &Machine,
     methods: &MethodPositions,
-    classes: &[BuiltInClass],
     thread: u8,
 ) -> Result<(), NoMemory>
-    requires positions { ArePositionsOf machine.now.tree methods.now }
-    requires classes { map built_in_entry classes.now ≡ built_ins }
+    requires { ArePositionsOf machine.now.tree methods.now }
     ensures { OnOk result (string_bytes text.new ≡ string_bytes text.old ++ thread_lines machine.now thread) }
 {
     let Some(position) = machine.position_of(thread) else {
@@ -101,7 +99,7 @@ fn add_thread(
     let line = ThreadLine {
         thread,
         at: instruction_at(machine, methods, Some(position)),
-        awaited: awaited_by(machine, classes, thread),
+        awaited: awaited_by(machine, methods, thread),
     };
     write!(text, "{line}")?;
     Ok(())
@@ -112,9 +110,8 @@ fn add_threads(alloc: Global, text: &mut String, machine: &Machine) -> Result<()
     ensures { OnOk result (string_bytes text.new ≡ string_bytes text.old ++ lines_below machine.now (length machine.now.threads)) }
 {
     let methods = MethodPositions::new(alloc, machine.tree())?;
-    let classes = BuiltInClass::all(alloc)?;
     for thread in 0..machine.started() {
-        add_thread(text, machine, &methods, classes.as_slice(), thread as u8)?;
+        add_thread(text, machine, &methods, thread as u8)?;
     }
     Ok(())
 }

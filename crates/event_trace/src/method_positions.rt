@@ -1,37 +1,24 @@
-//! Where the methods of a program are declared, by their numbers.
+//! Where the methods of a program are declared, by their ids.
 
-ghost use Rattle.std.specs.Prelude.{◌≡◌, ◌++◌, IfOk, List, OnOk, Some, length, map, option_map, slice_get};
-ghost use Rattle.std.specs.List.{flat_map};
-ghost use Rattle.cil_model.specs.declared.types.ClassName.{ClassName as AnyClassName};
-ghost use Rattle.cil_model.specs.declared.trees.Tree.{Tree as AnyTree};
-ghost use Rattle.cil_model.specs.declared.trees.Class.{Class as AnyClass};
-ghost use Rattle.cil_model.specs.Declarations.{Declaration};
+ghost use Rattle.std.specs.Prelude.{◌≡◌, IfOk, map, option_and_then, option_map, slice_get};
 ghost use Rattle.name_tables.specs.BuiltInTable.{built_in_entry};
-ghost use Rattle.name_tables.specs.Numbers.{source_entry};
-ghost use Rattle.interleaving_core.specs.simulation.loaded_program.AllMethods.{all_methods, owned_methods};
-ghost use Rattle.event_trace.specs.MethodPositions.{built_in_method, method_by, methods_by, class_and_method, source_method};
+ghost use Rattle.name_tables.specs.Numbers.{method_at};
+ghost use Rattle.event_trace.specs.MethodPositions.{built_in_method, class_and_method, method_indices, source_method};
 
 use crate::owned_methods::{OwnedMethod, Owner};
 use cil_model::memory::NoMemory;
 use cil_model::sequences::Sequence;
 use cil_model::trees::{Class, Member, Tree};
 use name_tables::built_in::BuiltInClass;
+use name_tables::ids::{FIRST_OF_SOURCE, MethodId};
 use std::alloc::Global;
 
-/// Where a method is declared.
-#[derive(Clone, Copy)]
-pub enum MethodPosition {
-    /// In a built-in class, by its index among them, at an index among its methods.
-    BuiltIn { class: usize, method: usize },
-    /// In a class of the source, by its index there, at an index among its members.
-    Source { class: usize, member: usize },
-}
-
-/// Where each method of a program is declared, by its number among the methods of all classes. It keeps nothing of the tree.
+/// Where the methods of a program are declared: those of the built-in classes, and for each class of the source the indices of its methods among its
+/// members. It keeps nothing of the tree.
 #[derive(Drop)]
 pub struct MethodPositions {
     built_ins: Sequence<BuiltInClass>,
-    positions: Vec<MethodPosition>,
+    source: Vec<Vec<usize>>,
 }
 
 impl MethodPositions {
@@ -41,49 +28,58 @@ impl MethodPositions {
     pub fn new(alloc: Global, tree: &Tree) -> Result<Self, NoMemory>
         ensures { IfOk result (ArePositionsOf tree.now) }
     {
-        let built_ins = BuiltInClass::all(alloc)?;
-        let mut positions = Vec::new(alloc);
-        add_built_ins(&mut positions, built_ins.as_slice())?;
-        add_classes(&mut positions, tree.classes.as_slice())?;
         Ok(MethodPositions {
-            built_ins,
-            positions,
+            built_ins: BuiltInClass::all(alloc)?,
+            source: source_indices(alloc, tree.classes.as_slice())?,
         })
     }
 
-    /// The method with this number, in the tree that the positions were made of. None where no method has it. Takes constant time, and no
-    /// memory.
-    pub fn method<'a>(&'a self, tree: &'a Tree, number: u32) -> Option<OwnedMethod<'a>>
+    /// The method with this id, in the tree that the positions were made of. None where no method has it. Takes constant time, and no memory.
+    pub fn method<'a>(&'a self, tree: &'a Tree, id: MethodId) -> Option<OwnedMethod<'a>>
         requires { ArePositionsOf tree.now self.now }
-        ensures { option_map class_and_method result ≡ slice_get (all_methods tree.now) number }
+        ensures { option_map class_and_method result ≡ method_at tree.now (id.class, id.index) }
     {
-        let position = entry_at(self.positions.as_slice(), number as usize)?;
-        self.owned_method(tree, position)
-    }
-
-    /// The method that is declared at a position. None where there is none.
-    fn owned_method<'a>(
-        &'a self,
-        tree: &'a Tree,
-        position: MethodPosition,
-    ) -> Option<OwnedMethod<'a>>
-        ensures { option_map class_and_method result ≡ method_by (map built_in_entry self.now.built_ins) tree.now position }
-    {
-        match position {
-            MethodPosition::BuiltIn { class, method } => {
-                built_in_method(self.built_ins.as_slice().get(class)?, method)
-            }
-            MethodPosition::Source { class, member } => {
-                source_method(tree.classes.as_slice().get(class)?, member)
-            }
+        let MethodId { class, index } = id;
+        let number = class.number();
+        match number.checked_sub(FIRST_OF_SOURCE) {
+            None => self.built_in(number, index),
+            Some(number) => self.of_source(tree, number, index),
         }
     }
-}
 
-fn entry_at(positions: &[MethodPosition], number: usize) -> Option<MethodPosition>
-    ensures { result ≡ slice_get positions.now number }
-{
-    positions.get(number).copied()
+    /// The built-in classes, by their numbers.
+    pub(crate) fn built_ins(&self) -> &[BuiltInClass]
+        ensures { result.now ≡ self.now.built_ins }
+    {
+        self.built_ins.as_slice()
+    }
+
+    /// The method at an index of the built-in class with this index.
+    fn built_in(&self, class: usize, index: usize) -> Option<OwnedMethod<'_>>
+        ensures { option_map class_and_method result ≡ option_and_then (built_in_method index) (slice_get (map built_in_entry self.now.built_ins) class) }
+    {
+        built_in_method(self.built_ins.as_slice().get(class)?, index)
+    }
+
+    /// The method at an index of the class of the source with this index.
+    fn of_source<'a>(
+        &'a self,
+        tree: &'a Tree,
+        class: usize,
+        index: usize,
+    ) -> Option<OwnedMethod<'a>>
+        ensures { option_map class_and_method result ≡ option_and_then (λ i. option_and_then (source_method i) (slice_get tree.now.classes class)) (option_and_then (λ row. slice_get row.items index) (slice_get self.now.source.items class)) }
+    {
+        let member = self.member(class, index)?;
+        source_method(tree.classes.as_slice().get(class)?, member)
+    }
+
+    /// The index of a method among the members of a class of the source.
+    fn member(&self, class: usize, index: usize) -> Option<usize>
+        ensures { result ≡ option_and_then (λ row. slice_get row.items index) (slice_get self.now.source.items class) }
+    {
+        self.source.get(class)?.get(index).copied()
+    }
 }
 
 /// The method at an index of a built-in class.
@@ -110,58 +106,26 @@ fn source_method(class: &Class, index: usize) -> Option<OwnedMethod<'_>>
     }
 }
 
-/// Appends the positions of the methods of all built-in classes.
-fn add_built_ins(
-    positions: &mut Vec<MethodPosition>,
-    classes: &[BuiltInClass],
-) -> Result<(), NoMemory>
-    ensures { (first : List (AnyClassName × Declaration)) (tree : AnyTree) → map built_in_entry classes.now ≡ first →
-        OnOk result (methods_by first tree positions.new.items ≡ methods_by first tree positions.old.items ++ map Some (flat_map owned_methods first)) }
+/// For each class of a source the indices of its methods among its members.
+fn source_indices(alloc: Global, classes: &[Class]) -> Result<Vec<Vec<usize>>, NoMemory>
+    ensures { IfOk result (λ rows. map (λ row. row.items) rows.items ≡ map (λ c. method_indices 0 c.members) classes.now) }
 {
-    for (class, built_in) in classes.iter().enumerate() {
-        add_built_in(positions, class, built_in.methods.as_slice().len())?;
+    let mut rows = Vec::with_capacity(alloc, classes.len())?;
+    for class in classes {
+        rows.push(method_indices(alloc, class.members.as_slice())?)?;
     }
-    Ok(())
+    Ok(rows)
 }
 
-/// Appends the positions of the first methods of a built-in class, given the index of the class and their number.
-fn add_built_in(
-    positions: &mut Vec<MethodPosition>,
-    class: usize,
-    methods: usize,
-) -> Result<(), NoMemory>
-    ensures { (first : List (AnyClassName × Declaration)) (tree : AnyTree) (e : AnyClassName × Declaration) → slice_get first class ≡ Some e → length e.1.methods ≡ methods →
-        OnOk result (methods_by first tree positions.new.items ≡ methods_by first tree positions.old.items ++ map Some (owned_methods e)) }
+/// The indices of the methods among the members of a class.
+fn method_indices(alloc: Global, members: &[Member]) -> Result<Vec<usize>, NoMemory>
+    ensures { IfOk result (λ indices. indices.items ≡ method_indices 0 members.now) }
 {
-    for method in 0..methods {
-        positions.push(MethodPosition::BuiltIn { class, method })?;
-    }
-    Ok(())
-}
-
-/// Appends the positions of the methods of all classes of a source.
-fn add_classes(positions: &mut Vec<MethodPosition>, classes: &[Class]) -> Result<(), NoMemory>
-    ensures { (first : List (AnyClassName × Declaration)) (tree : AnyTree) → tree.classes ≡ classes.now → OnOk result (methods_by first tree positions.new.items ≡ methods_by first tree positions.old.items ++ map Some (flat_map owned_methods (map source_entry classes.now))) }
-{
-    for (class, declared) in classes.iter().enumerate() {
-        add_members(positions, class, declared.members.as_slice())?;
-    }
-    Ok(())
-}
-
-/// Appends the positions of the methods among the members of a class of the source, by its index there.
-fn add_members(
-    positions: &mut Vec<MethodPosition>,
-    class: usize,
-    members: &[Member],
-) -> Result<(), NoMemory>
-    ensures { (first : List (AnyClassName × Declaration)) (tree : AnyTree) (c : AnyClass) → slice_get tree.classes class ≡ Some c → c.members ≡ members.now →
-        OnOk result (methods_by first tree positions.new.items ≡ methods_by first tree positions.old.items ++ map Some (owned_methods (source_entry c))) }
-{
-    for (member, declared) in members.iter().enumerate() {
-        if let Member::Method(_) = declared {
-            positions.push(MethodPosition::Source { class, member })?;
+    let mut indices = Vec::new(alloc);
+    for (index, member) in members.iter().enumerate() {
+        if let Member::Method(_) = member {
+            indices.push(index)?;
         }
     }
-    Ok(())
+    Ok(indices)
 }

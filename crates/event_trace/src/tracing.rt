@@ -141,7 +141,7 @@ fn add_event(
     Ok(())
 }
 
-/// The instruction at a position of the program that a machine runs. None where no method has the number, and of no position.
+/// The instruction at a position of the program that a machine runs. None of no position.
 pub fn instruction_at<'a>(
     machine: &'a Machine,
     methods: &'a MethodPositions,

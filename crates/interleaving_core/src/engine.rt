@@ -27,7 +27,7 @@ use crate::beginnings::beginning_on;
 use crate::cycle_memory::CycleMemory;
 use crate::initial_states::{initial_parts, reset_heap};
 use crate::monitors::monitor_in;
-use crate::positions::{Position, position_in};
+use crate::positions::{Position, position_of};
 use crate::prints::print_length_in;
 use crate::steps::{answer, instruct, leave_if_ended, seat_started};
 use crate::waits::{Wait, wait_in};
@@ -256,9 +256,13 @@ impl Engine {
 
     /// Where the thread is. None where it has ended or was never started.
     pub fn position_of(&self, thread: u8) -> Option<Position>
-        ensures { result ≡ position_at self.now.threads.items thread }
+        requires ready { CanContinue self.now }
+        ensures { result ≡ position_at self.now.program self.now.threads.items thread }
     {
-        position_in(&self.thread(thread)?.thread_status)
+        match &self.thread(thread)?.thread_status {
+            ThreadStatus::Live(frames) => Some(position_of(&self.program, frames)),
+            ThreadStatus::Ended(_) => None,
+        }
     }
 
     /// What the thread waits for. None where its next step is not blocked, and where it has ended or was never started.

@@ -297,8 +297,10 @@ impl Machine {
     /// Where a thread is: the method that runs, the pc of its next instruction, how many frames it has, and how many values are on the
     /// stack of the running one. None where it has ended or was never started.
     pub fn position_of(&self, thread: u8) -> Option<Position>
-        ensures { result ≡ position_at self.now.threads thread }
+        ensures { result ≡ position_at self.now.tree self.now.threads thread }
     {
+        // For the prover alone: it brings in the laws of the field.
+        let _engine = &self.engine;
         self.engine.position_of(thread)
     }
 

@@ -8,15 +8,16 @@ use Rattle.ilasm_tokens.specs.Vocabulary.{use_of}
 use Rattle.ilasm_tokens.specs.declared.words.WordUse.{WordUse}
 use Rattle.ilasm_tokens.specs.declared.words.WordUse.TheVariants.{Instruction as OfInstruction}
 use Rattle.source_lines.specs.declared.finding.Part.{Part}
-use Rattle.source_lines.specs.declared.finding.Part.TheVariants.{Method, Instruction}
+use Rattle.source_lines.specs.declared.finding.Part.TheVariants.{Class, Method, Instruction}
 
 -- the word is the name of an instruction
 abbrev pub names_instruction : Option WordUse → Bool
 names_instruction (Some (OfInstruction form)) = true
 names_instruction _ = false
 
--- each method begins with `.method`, and each instruction with its name; these words have no other use
+-- each class begins with `.class`, each method with `.method`, and each instruction with its name; these words have no other use
 abbrev pub is_first_word : Part → List ℕ → Bool
+is_first_word Class word = bytes_eq word (codes ".class")
 is_first_word Method word = bytes_eq word (codes ".method")
 is_first_word Instruction word = names_instruction (use_of word)
 
@@ -30,9 +31,13 @@ index_from part others at [] = None
 index_from part zero at (t ∷ ts) = if begins part t then Some at else index_from part zero (at + 1) ts
 index_from part (suc n) at (t ∷ ts) = if begins part t then index_from part n (at + 1) ts else index_from part (suc n) (at + 1) ts
 
+-- the token that begins a method of a class: the methods of a class follow its first token
+abbrev pub method_token : List Token → ℕ → ℕ → Option ℕ
+method_token ts class n = option_and_then (λ start. index_from Method n start (drop start ts)) (index_from Class class 0 ts)
+
 -- the token that names an instruction of a method: the instructions of a method follow its first token
-abbrev pub instruction_token : List Token → ℕ → ℕ → Option ℕ
-instruction_token ts method n = option_and_then (λ start. index_from Instruction n start (drop start ts)) (index_from Method method 0 ts)
+abbrev pub instruction_token : List Token → ℕ → ℕ → ℕ → Option ℕ
+instruction_token ts class method n = option_and_then (λ start. index_from Instruction n start (drop start ts)) (method_token ts class method)
 
 -- the tokens of a source; none if it is refused
 abbrev pub tokens_of : List ℕ → List Token
@@ -45,6 +50,6 @@ line_of_byte source offset = count_by (λ byte. byte == 10) (take offset source)
 abbrev pub line_of_token : List ℕ → ℕ → Option ℕ
 line_of_token source token = option_map (line_of_byte source) (offset_of token source)
 
--- the line of an instruction of a method, each by its index
-abbrev pub instruction_line : List ℕ → ℕ → ℕ → Option ℕ
-instruction_line source method n = option_and_then (line_of_token source) (instruction_token (tokens_of source) method n)
+-- the line of an instruction of a method of a class, each by its index
+abbrev pub instruction_line : List ℕ → ℕ → ℕ → ℕ → Option ℕ
+instruction_line source class method n = option_and_then (line_of_token source) (instruction_token (tokens_of source) class method n)

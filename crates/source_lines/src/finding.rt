@@ -1,4 +1,4 @@
-//! Tokens that begin methods and instructions.
+//! Tokens that begin classes, methods and instructions.
 
 ghost use Rattle.std.specs.Prelude.{◌≡◌, drop};
 ghost use Rattle.source_lines.specs.Lines.{begins, index_from, is_first_word, names_instruction};
@@ -9,6 +9,7 @@ use ilasm_tokens::words::{WordUse, use_of};
 /// A part of a source that begins with a reserved word of its own.
 #[derive(Clone, Copy)]
 pub(crate) enum Part {
+    Class,
     Method,
     Instruction,
 }
@@ -28,6 +29,7 @@ fn is_first_word(word: &[u8], part: Part) -> bool
     ensures { result ≡ is_first_word part word.now }
 {
     match part {
+        Part::Class => word == b".class".as_slice(),
         Part::Method => word == b".method".as_slice(),
         Part::Instruction => names_instruction(use_of(word)),
     }

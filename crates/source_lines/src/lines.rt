@@ -42,24 +42,30 @@ impl<'s> SourceLines<'s> {
         })
     }
 
-    /// The line, from 1, of an instruction of a method. Methods count from 0 in source order, abstract ones too, and instructions from 0 in their
-    /// method. None if the source has no such instruction. The only error is out of memory.
-    pub fn line(&self, method: usize, instruction: usize) -> Result<Option<usize>, NoMemory>
-        ensures { IfOk result (λ line. line ≡ instruction_line self.now method instruction) }
+    /// The line, from 1, of an instruction of a method. Classes count from 0 in source order, methods from 0 in their class, abstract ones too, and
+    /// instructions from 0 in their method. None if the source has no such instruction. The only error is out of memory.
+    pub fn line(
+        &self,
+        class: usize,
+        method: usize,
+        instruction: usize,
+    ) -> Result<Option<usize>, NoMemory>
+        ensures { IfOk result (λ line. line ≡ instruction_line self.now class method instruction) }
     {
-        match self.token(method, instruction) {
+        match self.token(class, method, instruction) {
             None => Ok(None),
             Some(token) => line_of_token(self.source, token),
         }
     }
 
     /// The index of the token that names an instruction of a method.
-    fn token(&self, method: usize, instruction: usize) -> Option<usize>
-        ensures { result ≡ instruction_token (tokens_of self.now) method instruction }
+    fn token(&self, class: usize, method: usize, instruction: usize) -> Option<usize>
+        ensures { result ≡ instruction_token (tokens_of self.now) class method instruction }
     {
         let tokens = self.tokens.as_slice();
-        let start = index_from(tokens, 0, Part::Method, method)?;
-        index_from(tokens, start, Part::Instruction, instruction)
+        let class = index_from(tokens, 0, Part::Class, class)?;
+        let method = index_from(tokens, class, Part::Method, method)?;
+        index_from(tokens, method, Part::Instruction, instruction)
     }
 }
 

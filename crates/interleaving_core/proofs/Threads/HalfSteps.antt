@@ -1,5 +1,5 @@
 -- The two halves of a step of a thread make one transition of its machine.
-use Rattle.std.proofs.Common.{◌≡◌, ◌+◌, ℕ, true, false, List, [], ◌∷◌, ◌++◌, length, Option, Some, None, option_map, slice_get, refl, sym, ap, ◌∙◌, subst}
+use Rattle.std.proofs.Common.{◌≡◌, ◌+◌, ℕ, true, false, List, [], ◌∷◌, ◌++◌, length, Option, Some, None, option_map, option_and_then, slice_get, refl, sym, ap, ◌∙◌, subst}
 use Rattle.std.specs.Option.{option_map_or}
 use Rattle.std.proofs.lemmas.Option.{same_Some}
 use Rattle.cil_model.specs.declared.phases.Phase.{Phase}
@@ -31,6 +31,14 @@ use Rattle.cil_model.proofs.Lists.{none_is_some, get_before, set_is_there, set_i
 
 pub thread_is : (thread : Thread) (m : Frames) → thread.thread_status ≡ Live m → thread ≡ live_thread thread.steps_left m
 thread_is thread m e = ap (λ (s : ThreadStatus). record { thread_status = s; steps_left = thread.steps_left }) e
+
+pub live_at : (threads : List Thread) (n : ℕ) (thread : Thread) (m : Frames) → slice_get threads n ≡ Some thread → thread.thread_status ≡ Live m → slice_get threads n ≡ Some (live_thread thread.steps_left m)
+live_at threads n thread m there is = there ∙ ap Some (thread_is thread m is)
+
+-- what follows from a thread's status
+pub by_status : {X : Type 0} (of : ThreadStatus → Option X) (threads : List Thread) (n : ℕ) (thread : Thread) (s : ThreadStatus) → slice_get threads n ≡ Some thread → thread.thread_status ≡ s →
+    option_and_then (λ (t : Thread). of t.thread_status) (slice_get threads n) ≡ of s
+by_status of threads n thread s there is = ap (option_and_then (λ (t : Thread). of t.thread_status)) there ∙ ap of is
 
 pub live_there : (threads : List Thread) (n : ℕ) → is_live_at threads n ≡ true → (left : ℕ) × (m : Frames) × (slice_get threads n ≡ Some (live_thread left m))
 live_there threads n live = by_thread (slice_get threads n) refl live

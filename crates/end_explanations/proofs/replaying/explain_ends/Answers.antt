@@ -14,7 +14,6 @@ loop-run-preserved c =
     record {
       replayed = replayed_run c.in_ok-names.names.lines c.runs-runs.result.now c.loop-run.run-index _ c.args.machine.now beginning c.loop-run.machine c.loop-run.progress c.replay_run.new.machine c.replay_run.new.progress c.loop-run-test.true before.replayed done.replayed;
       positions = subst (λ tree. ArePositionsOf tree c.in_ok-names.names.methods) (sym done.same.0) before.positions;
-      classes = before.classes;
       limits = done.same.1 ∙ before.limits;
     }
 

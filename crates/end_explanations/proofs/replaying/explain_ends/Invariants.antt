@@ -1,7 +1,5 @@
 use Rattle.std.proofs.Common.{◌≡◌, map, take}
-use Rattle.cil_model.specs.Declarations.{built_ins}
 use Rattle.event_trace.specs.MethodPositions.{ArePositionsOf}
-use Rattle.name_tables.specs.BuiltInTable.{built_in_entry}
 use Rattle.shared_machine.specs.Histories.{plain}
 use Rattle.end_explanations.specs.Replays.{AreReplayed, beginning, pair_of}
 use Rattle.end_explanations.proofs.replaying.explain_ends.Given as goal
@@ -11,6 +9,5 @@ abbrev pub invariant-loop-run : goal.invariant-loop-run
 invariant-loop-run l = record {
   replayed : AreReplayed l.names.lines l.fn.machine beginning (map pair_of (plain (take l.run-index l.runs))) l.machine l.progress;
   positions : ArePositionsOf l.machine.tree l.names.methods;
-  classes : map built_in_entry l.names.classes ≡ built_ins;
   limits : l.machine.limits ≡ l.fn.machine.limits;
 }

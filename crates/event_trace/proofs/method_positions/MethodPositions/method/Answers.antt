@@ -1,12 +1,14 @@
-use Rattle.std.proofs.Common.{◌≡◌, ◌∙◌, Some, ap, map, sym}
-use Rattle.std.specs.Prelude.{option_and_then, slice_get}
-use Rattle.event_trace.proofs.Names.{built_in_entry, all_methods, method_by}
-use Rattle.event_trace.proofs.PositionLaws.{at_number}
+use Rattle.std.proofs.Common.{◌≡◌, ◌+◌, ◌<◌, ◌∙◌, ap, arith}
+use Rattle.event_trace.proofs.Names.{FIRST_OF_SOURCE, method_at}
+use Rattle.event_trace.proofs.PositionLaws.{built_in_at, source_at}
 use Rattle.event_trace.proofs.method_positions.MethodPositions.method.Goals as goal
 
-pub returns : goal.returns
-returns c =
-    let by = method_by (map built_in_entry c.args.self.now.built_ins) c.args.tree.now in
-    let there : slice_get c.args.self.now.positions.items c.args.number ≡ Some c.in_ok-position.position =
-    ap (λ ps. slice_get ps c.args.number) (sym c.as_slice.ensures.value) ∙ sym c.in_ok-position.ensures in
-    c.owned_method.ensures ∙ (sym (ap (option_and_then by) there) ∙ at_number by c.args.self.now.positions.items (all_methods c.args.tree.now) c.args.number c.requires)
+pub returns-in-None : goal.returns-in-None
+returns-in-None c =
+    let low : c.number-number.result < FIRST_OF_SOURCE = omega (arith, c.in-None.ensures) in
+    c.built_in.ensures ∙ built_in_at c.args.tree.now c.args.self.now c.requires c.number-number.result c.args.id.index low ∙ ap (λ n. method_at c.args.tree.now (n, c.args.id.index)) c.number-number.ensures
+
+pub returns-in-Some : goal.returns-in-Some
+returns-in-Some c =
+    let is : c.number-number.result ≡ FIRST_OF_SOURCE + c.in-Some.number = omega (arith, c.in-Some.ensures) in
+    c.of_source.ensures ∙ source_at c.args.tree.now c.args.self.now c.requires c.number-number.result c.in-Some.number c.args.id.index is ∙ ap (λ n. method_at c.args.tree.now (n, c.args.id.index)) c.number-number.ensures

@@ -1,7 +1,17 @@
-use Rattle.std.proofs.Common.{ap, option_and_then, ◌∙◌}
-use Rattle.threads_monitors.specs.declared.threads.Thread.{Thread}
+use Rattle.std.proofs.Common.{ap, sym, ◌∙◌, Some}
+use Rattle.threads_monitors.specs.declared.threads.ThreadStatus.TheVariants.{Live}
 use Rattle.interleaving_core.specs.Positions.{position_in}
+use Rattle.interleaving_core.proofs.Threads.HalfSteps.{by_status, live_at}
 use Rattle.interleaving_core.proofs.engine.Engine.position_of.Goals as goal
 
-pub returns : goal.returns
-returns c = c.position_in.ensures ∙ ap (option_and_then (λ (t : Thread). position_in t.thread_status)) c.in_ok-thread.ensures
+pub position_of-requires : goal.position_of-requires
+position_of-requires c =
+    let thread = c.in_ok-frames.field-0.now in
+    (c.requires.ready.ready c.args.thread thread.steps_left c.in-Live.frames (live_at c.args.self.now.threads.items c.args.thread thread c.in-Live.frames (sym c.in_ok-frames.ensures) c.in-Live.is)).pc
+
+pub returns-in-Live : goal.returns-in-Live
+returns-in-Live c =
+    ap Some c.position_of.ensures ∙ sym (by_status (position_in c.args.self.now.program) c.args.self.now.threads.items c.args.thread c.in_ok-frames.field-0.now (Live c.in-Live.frames) (sym c.in_ok-frames.ensures) c.in-Live.is)
+
+pub returns-in-Ended : goal.returns-in-Ended
+returns-in-Ended c = sym (by_status (position_in c.args.self.now.program) c.args.self.now.threads.items c.args.thread c.in_ok-frames.field-0.now _ (sym c.in_ok-frames.ensures) c.in-Ended.is)
