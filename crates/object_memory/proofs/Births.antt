@@ -143,13 +143,6 @@ module _ (m : Spaces) (h : AreSpaces m) (k : Kind) (n : ℕ) where
   pub birth_at-kept : (p : BirthSpace) (a : Addr) (c : Cell) → cell_at m a ≡ Some c → cell_at (birth_at p m k n).0 a ≡ Some c
   birth_at-kept p a c e = kept_by p (nat_le (3 + n) (room_at p m)) refl a c e
 
-  spaces_by : (p : BirthSpace) (t : Bool) → nat_le (3 + n) (room_at p m) ≡ t → AreSpaces (outcome p t).0
-  spaces_by p true test = AreSpaces-born p (let room : 3 + n ≤ room_at p m = grind (arith, nat_tests) in room)
-  spaces_by p false test = h
-
-  pub AreSpaces-birth_at : (p : BirthSpace) → AreSpaces (birth_at p m k n).0
-  AreSpaces-birth_at p = spaces_by p (nat_le (3 + n) (room_at p m)) refl
-
   -- what is born has no literal's address
   offset_is : (s : Cells) → IsSpace s → 3 + n ≤ free_words s → literal_number (next_address s) ≡ None
   offset_is s space room =

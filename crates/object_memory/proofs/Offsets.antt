@@ -13,9 +13,6 @@ use Rattle.object_memory.proofs.Blocks.{range_in, apart_in, none_in}
 pub IsOffset-start : (s : Cells) → IsOffset s s.start
 IsOffset-start s = record { before = []; after = s.cells; split = refl; at = omega arith }
 
-pub IsOffset-end : (s : Cells) → IsOffset s (s.start + used_words s.cells)
-IsOffset-end s = record { before = s.cells; after = []; split = sym (append-nil s.cells); at = refl }
-
 pub offset-le-end : (s : Cells) (p : ℕ) → IsOffset s p → (s.start ≤ p) × (p ≤ s.start + used_words s.cells)
 offset-le-end s p h =
     let all = ap used_words h.split in
@@ -101,13 +98,6 @@ pub begins_here : (s : Cells) (n : ℕ) → IsOffset s (s.start + n) → n ≢ u
 begins_here s n h ne = elim (at_offset s (s.start + n) h) [
   | cell c there next ↦ rw there refl
   | end is ↦ absurd (omega (arith, is, ne))
-]
-
--- a cell below the offset of another lies below it whole
-pub below_offset : (s : Cells) (p : ℕ) → IsOffset s p → (a : Addr) (c : Cell) → cell_in s a ≡ Some c → a.number < p → a.number + size c ≤ p
-below_offset s p h a c e less = elim (at_offset s p h) [
-  | cell d there next ↦ apart_in s a (record { number = p }) c d e there less
-  | end is ↦ omega (arith, is, (range_in s a c e).1)
 ]
 
 -- the cells below the next offset are those below this one, and the one at it

@@ -128,10 +128,6 @@ module _ (s : Cells) (spare : ℕ) (room : HasGreyRoom s spare) where
   HasGreyRoom-mark a c e unmarked =
       omega (arith, grey_fits a c e unmarked, sum_in set_mark white s a c e, white_is c unmarked, used_in set_mark (λ x. refl) s a, room)
 
-  -- and for a cell that may be born, which is put on the list
-  pub grey_fits_born : (c : Cell) → size c ≤ free_words s → 0 < spare
-  grey_fits_born c fits = omega (arith, fits, room)
-
   pub HasGreyRoom-listed : (c : Cell) → c.marked ≡ true → size c ≤ free_words s → HasGreyRoom (with_last s c) (spare - 1)
   HasGreyRoom-listed c marked fits = omega (arith, fits, sum_last white s c, black_is c marked, used_last s c, room)
 

@@ -7,7 +7,7 @@ use Rattle.object_memory.specs.declared.kinds.Kind.{Kind}
 use Rattle.object_memory.specs.declared.monitors.Monitor.{Monitor}
 use Rattle.object_memory.specs.declared.monitors.Monitor.TheVariants.{Free}
 use Rattle.object_memory.specs.declared.heap.Cycle.{Cycle}
-use Rattle.object_memory.specs.Cells.{Cell, Cells, used_words, free_words, no_cells, literal_number, store_slot, store_monitor}
+use Rattle.object_memory.specs.Cells.{Cell, Cells, used_words, no_cells, literal_number, store_slot, store_monitor}
 use Rattle.object_memory.specs.Spaces.{Spaces, AreSpaces, HasGreyRoom, other_start, cell_at, slots_at, change_at, BirthSpace, birth_at, birth, mark}
 
 -- the cells, and the monitor of each literal in place of the literal's number
@@ -62,9 +62,6 @@ whole_space o = o.spaces.old.words
 
 abbrev pub used_space : Objects → ℕ
 used_space o = used_words o.spaces.old.cells
-
-abbrev pub free_space : Objects → ℕ
-free_space o = free_words o.spaces.old
 
 -- ---- births, marks and stores
 

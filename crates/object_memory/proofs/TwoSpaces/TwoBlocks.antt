@@ -1,14 +1,14 @@
 -- Two blocks: which cell lies where after each change, for those above, who need nothing of sizes and offsets.
-use Rattle.std.proofs.Common.{◌≡◌, ◌≢◌, ◌⊎◌, inl, inr, ℕ, ◌+◌, ◌<◌, ◌≤◌, Bool, true, false, [], refl, sym, ap, subst, ◌∙◌, arith}
+use Rattle.std.proofs.Common.{◌≡◌, ◌≢◌, ◌⊎◌, inl, inr, ℕ, ◌+◌, ◌<◌, ◌≤◌, Bool, true, false, refl, sym, ap, subst, ◌∙◌, arith}
 use Rattle.std.specs.Prelude.{◌==◌, nat_lt, Option, Some, None, IsSome, unwrap_or}
 use Rattle.std.proofs.Math.ListN.{length-set}
 use Rattle.std.proofs.lemmas.Bool.Decides.{nat_tests}
 use Rattle.cil_model.specs.declared.limits.TheConstants.{MOST_WORDS}
 use Rattle.object_memory.specs.declared.addresses.Addr.{Addr}
 use Rattle.object_memory.specs.declared.addresses.TheConstants.{FIRST_LITERAL}
-use Rattle.object_memory.specs.Cells.{Cell, Cells, size, used_words, free_words, first, next_address, null, literal_number, store_slot, cell_in, change_in, with_last}
+use Rattle.object_memory.specs.Cells.{Cell, Cells, size, used_words, free_words, first, null, literal_number, store_slot, cell_in, change_in, with_last}
 use Rattle.object_memory.specs.Spaces.{Spaces, second, other_start, first_of, cell_at, change_at, IsSpace, AreSpaces, with_old, with_new, other_of, forward, open_cycle, close_cycle}
-use Rattle.object_memory.proofs.Blocks.{range_in, last_in, kept_in, used_last, own_in, other_in, used_in, unchanged_in}
+use Rattle.object_memory.proofs.Blocks.{range_in, used_last, own_in, other_in, used_in, unchanged_in}
 
 -- ---- where cells lie
 
@@ -154,15 +154,6 @@ module _ (f : Cell → Cell) (keeps : (c : Cell) → size (f c) ≡ size c) wher
     pub change-other : (b : Addr) → a.number ≢ b.number → cell_at (change_at f m a) b ≡ cell_at m b
     change-other b ne = rw (other_in f keeps m.old a b ne, other_in f keeps m.new a b ne) refl
 
-    -- the words in use and the next addresses stay
-    pub change-used : (used_words (change_at f m a).old.cells ≡ used_words m.old.cells) × (used_words (change_at f m a).new.cells ≡ used_words m.new.cells)
-    change-used = (used_in f keeps m.old a, used_in f keeps m.new a)
-
-    pub change-next : (next_address (change_at f m a).old ≡ next_address m.old) × (next_address (change_at f m a).new ≡ next_address m.new)
-    change-next =
-        let u = change-used in
-        (ap (λ (n : ℕ). record { number = m.old.start + n }) u.0, ap (λ (n : ℕ). record { number = m.new.start + n }) u.1)
-
 -- read after write
 change-own_by : (f : Cell → Cell) (m : Spaces) (a : Addr) (c : Cell) (o : Option Cell) → cell_in m.old a ≡ o → first_of o (cell_in m.new a) ≡ Some c → cell_at (change_at f m a) a ≡ Some (f c)
 change-own_by f m a c (Some d) is e =
@@ -175,10 +166,7 @@ change-own_by f m a c None is e =
 pub change-own : (f : Cell → Cell) (m : Spaces) (a : Addr) (c : Cell) → cell_at m a ≡ Some c → cell_at (change_at f m a) a ≡ Some (f c)
 change-own f m a c e = change-own_by f m a c (cell_in m.old a) refl e
 
--- a change at the address of an old cell leaves the new block, and the other way round
-pub change-old_alone : (f : Cell → Cell) (m : Spaces) → AreSpaces m → (a : Addr) (c : Cell) → cell_in m.old a ≡ Some c → change_at f m a ≡ record m { old = change_in f m.old a }
-change-old_alone f m h a c e = ap (λ s. record m { old = change_in f m.old a; new = s }) (unchanged_in f m.new a (not_new m h a c e))
-
+-- a change at the address of a new cell leaves the old block
 pub change-new_alone : (f : Cell → Cell) (m : Spaces) → AreSpaces m → (a : Addr) (c : Cell) → cell_in m.new a ≡ Some c → change_at f m a ≡ record m { new = change_in f m.new a }
 change-new_alone f m h a c e = ap (λ s. record m { old = s; new = change_in f m.new a }) (unchanged_in f m.old a (not_old m h a c e))
 
@@ -200,25 +188,6 @@ module _ (m : Spaces) (c : Cell) where
 
   pub AreSpaces-with_new : AreSpaces m → size c ≤ free_words m.new → AreSpaces (with_new m c)
   AreSpaces-with_new h room = record { old = h.old; new = last-is_space m.new c h.new room; apart = h.apart }
-
-  pub with_old-last : cell_at (with_old m c) (next_address m.old) ≡ Some c
-  with_old-last = old_is_cell (with_old m c) (next_address m.old) c (last_in m.old c)
-
-  pub with_new-last : AreSpaces m → size c ≤ free_words m.new → cell_at (with_new m c) (next_address m.new) ≡ Some c
-  with_new-last h room = new_is_cell (with_new m c) (AreSpaces-with_new h room) (next_address m.new) c (last_in m.new c)
-
-  with_new-kept_by : (a : Addr) (d : Cell) (o : Option Cell) → first_of o (cell_in m.new a) ≡ Some d → first_of o (cell_in (with_last m.new c) a) ≡ Some d
-  with_new-kept_by a d None e = kept_in m.new c a d e
-  with_new-kept_by a d (Some x) e = e
-
-  pub with_new-kept : (a : Addr) (d : Cell) → cell_at m a ≡ Some d → cell_at (with_new m c) a ≡ Some d
-  with_new-kept a d e = with_new-kept_by a d (cell_in m.old a) e
-
-  pub with_old-kept : AreSpaces m → size c ≤ free_words m.old → (a : Addr) (d : Cell) → cell_at m a ≡ Some d → cell_at (with_old m c) a ≡ Some d
-  with_old-kept h room a d e = elim (either m a d e) [
-    | inl old ↦ old_is_cell (with_old m c) a d (kept_in m.old c a d old)
-    | inr new ↦ new_is_cell (with_old m c) (AreSpaces-with_old h room) a d new
-  ]
 
 -- ---- forwards
 
@@ -260,13 +229,6 @@ module _ (f : Cell → Cell) (keeps : (c : Cell) → size (f c) ≡ size c) (oth
   pub forward-change : (m : Spaces) (a b : Addr) → forward (change_at f m a) b ≡ forward m b
   forward-change m a b = ap (λ o. unwrap_or o b) (others_by m.old a b (cell_in m.old b) refl)
 
--- with one old cell more, the forward of a cell of before stays
-pub forward-with_old : (m : Spaces) (x : Cell) (a : Addr) (c : Cell) → AreSpaces m → size x ≤ free_words m.old → cell_at m a ≡ Some c → forward (with_old m x) a ≡ forward m a
-forward-with_old m x a c h room e = elim (either m a c e) [
-  | inl old ↦ rw (kept_in m.old x a c old, old) refl
-  | inr new ↦ forward_new (with_old m x) (AreSpaces-with_old m x h room) a c new ∙ sym (forward_new m h a c new)
-]
-
 -- ---- cycles
 
 module _ (m : Spaces) (h : AreSpaces m) where
@@ -286,21 +248,3 @@ module _ (m : Spaces) (h : AreSpaces m) where
   -- the old cells go, and the new ones lie where they lay
   pub closed-new : (a : Addr) (c : Cell) → cell_in m.new a ≡ Some c → cell_at (close_cycle m) a ≡ Some c
   closed-new a c e = old_is_cell (close_cycle m) a c e
-
-  closed-was_by : (a : Addr) (c : Cell) (o : Option Cell) → first_of o None ≡ Some c → o ≡ Some c
-  closed-was_by a c None e = absurd cc
-  closed-was_by a c (Some d) e = e
-
-  pub closed-was : (a : Addr) (c : Cell) → cell_at (close_cycle m) a ≡ Some c → cell_in m.new a ≡ Some c
-  closed-was a c e = closed-was_by a c (cell_in m.new a) e
-
-  pub closed-slots : (a : Addr) (c : Cell) → cell_in m.new a ≡ Some c → cell_at (close_cycle m) a ≡ cell_at m a
-  closed-slots a c e = closed-new a c e ∙ sym (new_is_cell m h a c e)
-
-opened-same_by : (o p : Option Cell) → p ≡ None → first_of o None ≡ first_of o p
-opened-same_by None p e = sym e
-opened-same_by (Some c) p e = refl
-
--- nothing is lost or won where a cycle opens
-pub opened-same : (m : Spaces) (words : ℕ) → m.new.cells ≡ [] → (a : Addr) → cell_at (open_cycle m words) a ≡ cell_at m a
-opened-same m words e a = opened-same_by (cell_in m.old a) (cell_in m.new a) (rw e refl)

@@ -1,25 +1,16 @@
 -- Marks, shells, stores to both copies, and the clearing of marks and copies.
 use Rattle.std.proofs.Common.{◌≡◌, ◌≢◌, ◌⊎◌, Bool, true, false, refl, sym, ap, subst, ◌∙◌}
-use Rattle.std.specs.Prelude.{Option, Some, None}
+use Rattle.std.specs.Prelude.{Some, None}
 use Rattle.object_memory.specs.declared.addresses.Addr.{Addr}
 use Rattle.object_memory.specs.Cells.{Cell, size, next_address, cell_in, with_last}
-use Rattle.object_memory.specs.Spaces.{Spaces, AreSpaces, cell_at, change_at, forward, with_new, with_shell, shell_of, set_mark, set_other, mark, is_white, marked_if, other_of, change_copies, change_if, HasShellRoom}
-use Rattle.object_memory.proofs.Blocks.{kept_in, was_in, last_in, own_in, other_in, unchanged_in}
+use Rattle.object_memory.specs.Spaces.{Spaces, AreSpaces, cell_at, change_at, with_new, with_shell, shell_of, set_mark, set_other, mark, marked_if, change_copies, HasShellRoom}
+use Rattle.object_memory.proofs.Blocks.{kept_in, was_in, last_in, own_in, unchanged_in}
 use Rattle.object_memory.proofs.TwoSpaces.TwoBlocks.{not_new, AreSpaces-with_new, AreSpaces-change, change-own, change-other}
 use Rattle.object_memory.proofs.Rooms.{shell_fits}
 
 -- ---- marks
 
 module _ (m : Spaces) (h : AreSpaces m) (a : Addr) where
-  AreSpaces-marked : (b : Bool) → AreSpaces (marked_if b m a)
-  AreSpaces-marked false = h
-  AreSpaces-marked true =
-      let g = AreSpaces-change set_mark (λ c. refl) m a h in
-      record { old = g.old; new = g.new; apart = g.apart }
-
-  pub AreSpaces-mark : AreSpaces (mark m a).0
-  AreSpaces-mark = AreSpaces-marked (is_white (cell_in m.old a))
-
   -- one that was marked stays as it is, and so does everything other
   pub mark-black : (c : Cell) → cell_in m.old a ≡ Some c → c.marked ≡ true → mark m a ≡ (m, false)
   mark-black c e marked = rw (e, marked) refl
@@ -63,31 +54,15 @@ module _ (m : Spaces) (h : AreSpaces m) (room : HasShellRoom m) (a : Addr) (c : 
   pub shell-new : cell_in (with_shell m a c).new b ≡ Some (shell_of a c)
   shell-new = subst (λ s. cell_in s b ≡ Some (shell_of a c)) (sym shell-new_block) (last_in m.new (shell_of a c))
 
-  pub shell-else_old : (x : Addr) → a.number ≢ x.number → cell_in (with_shell m a c).old x ≡ cell_in m.old x
-  shell-else_old x ne = other_in (set_other b) (λ y. refl) m.old a x ne
-
   pub shell-kept_new : (x : Addr) (d : Cell) → cell_in m.new x ≡ Some d → cell_in (with_shell m a c).new x ≡ Some d
   shell-kept_new x d g = subst (λ s. cell_in s x ≡ Some d) (sym shell-new_block) (kept_in m.new (shell_of a c) x d g)
 
   pub shell-was_new : (x : Addr) (d : Cell) → cell_in (with_shell m a c).new x ≡ Some d → (cell_in m.new x ≡ Some d) ⊎ ((x.number ≡ b.number) × (d ≡ shell_of a c))
   shell-was_new x d g = was_in m.new (shell_of a c) x d (subst (λ s. cell_in s x ≡ Some d) shell-new_block g)
 
-  pub shell-forward : forward (with_shell m a c) a ≡ b
-  shell-forward = rw shell-old refl
-
-  pub shell-forward_else : (x : Addr) → a.number ≢ x.number → forward (with_shell m a c) x ≡ forward m x
-  shell-forward_else x ne = rw (shell-else_old x ne) refl
-
 -- ---- stores to both copies
 
 module _ (f g : Cell → Cell) (keeps : (c : Cell) → size (f c) ≡ size c) (keeps' : (c : Cell) → size (g c) ≡ size c) (m : Spaces) (a : Addr) where
-  AreSpaces-change_if : (o : Option Addr) → AreSpaces (change_at f m a) → AreSpaces (change_if g (change_at f m a) o)
-  AreSpaces-change_if None h = h
-  AreSpaces-change_if (Some b) h = AreSpaces-change g keeps' (change_at f m a) b h
-
-  pub AreSpaces-change_copies : AreSpaces m → AreSpaces (change_copies f g m a)
-  AreSpaces-change_copies h = AreSpaces-change_if (other_of (cell_at m a)) (AreSpaces-change f keeps m a h)
-
   -- both copies are changed
   module _ (b : Addr) (c d : Cell) (one : cell_at m a ≡ Some c) (other : c.other ≡ Some b) (two : cell_at m b ≡ Some d) (ne : a.number ≢ b.number) where
     done : change_copies f g m a ≡ change_at g (change_at f m a) b

@@ -53,12 +53,6 @@ none_old old a t off own = none_by (cell_in old a) refl
     none_by None e = e
     none_by (Some c) e = let on : t ≡ true = own (rw e refl) in absurd cc
 
-pub at_new : (old : Cells) (c : Cycle) (a : Addr) → cell_in old a ≡ None → cell_at (spaces_of old (Some c)) a ≡ cell_in c.to a
-at_new old c a e = rw e refl
-
-pub slots_at_new : (old : Cells) (c : Cycle) (a : Addr) → cell_in old a ≡ None → slots_at (spaces_of old (Some c)) a ≡ slots_in c.to a
-slots_at_new old c a e = rw e refl
-
 new_stays : (f : Cell → Cell) (old : Cells) (cycle : Option Cycle) → IsHeld old cycle → (a : Addr) → IsFromOld old cycle a → new_of (change_in f old a) cycle ≡ change_in f (new_of old cycle) a
 new_stays f old None h a inside = refl
 new_stays f old (Some c) h a inside = sym (unchanged_in f c.to a (none_new old (Some c) h a inside))
@@ -70,17 +64,9 @@ changed_old f old cycle h a inside = ap (λ (s : Cells). record (spaces_of old c
 pub changed_new : (f : Cell → Cell) (old : Cells) (c : Cycle) (a : Addr) → cell_in old a ≡ None → spaces_of old (Some (record c { to = change_in f c.to a })) ≡ change_at f (spaces_of old (Some c)) a
 changed_new f old c a e = ap (λ (s : Cells). record (spaces_of old (Some c)) { old = s; new = change_in f c.to a }) (sym (unchanged_in f old a e))
 
--- the same in the terms of the methods: with one block, with an address that the old block spans, and with another
-pub slots_alone : (old : Cells) (cycle : Option Cycle) (a : Addr) → cycle ≡ None → slots_at (spaces_of old cycle) a ≡ slots_in old a
-slots_alone old None a none = ap (λ o. unwrap_or (option_map (λ (c : Cell). c.slots) o) []) (first_of_none (cell_in old a))
-slots_alone old (Some c) a none = absurd cc
-
+-- the same in the terms of the methods: with an address that the old block spans, and with another
 pub slots_spanned : (old : Cells) (cycle : Option Cycle) (c : Cycle) (a : Addr) → IsHeld old cycle → cycle ≡ Some c → (old.start ≤ a.number) × (a.number < old.start + MOST_WORDS) → slots_at (spaces_of old cycle) a ≡ slots_in old a
 slots_spanned old cycle c a h some inside = slots_at_old old cycle h a (λ x e. inside)
-
-pub cells_alone : (old : Cells) (cycle : Option Cycle) (a : Addr) → cycle ≡ None → cell_at (spaces_of old cycle) a ≡ cell_in old a
-cells_alone old None a none = first_of_none (cell_in old a)
-cells_alone old (Some c) a none = absurd cc
 
 pub cells_spanned : (old : Cells) (cycle : Option Cycle) (c : Cycle) (a : Addr) → IsHeld old cycle → cycle ≡ Some c → (old.start ≤ a.number) × (a.number < old.start + MOST_WORDS) → cell_at (spaces_of old cycle) a ≡ cell_in old a
 cells_spanned old cycle c a h some inside = at_old old cycle h a (λ x e. inside)
@@ -216,10 +202,6 @@ module _ (old : Cells) (cycle : Option Cycle) (c : Cycle) (h : IsHeld old cycle)
       (record { spaces = spaces_of (change_in (store_copies true o) old a) (Some (record c { grey = record { waiting = c.grey.waiting ++ a ∷ []; spare = c.grey.spare - 1 }; has_marked = true })); literals = literals }, true)
       (with_mark (record { spaces = spaces_of old cycle; literals = literals }) a))
       x.3 (marked_is old cycle c h e a x.0 x.1 (x.2 ∙ unmarked) literals)
-
-pub unmarked_is : (old : Cells) (cycle : Option Cycle) (a : Addr) (literals : List Monitor) → is_white (cell_in old a) ≡ false
-    → ◌≡◌ {A = Objects × Bool} (record { spaces = spaces_of old cycle; literals = literals }, false) (with_mark (record { spaces = spaces_of old cycle; literals = literals }) a)
-unmarked_is old cycle a literals white = rw white refl
 
 -- ---- cycles
 
