@@ -1,16 +1,14 @@
 -- Stores to an object of two copies: the old one changes in one way and the new one in another, through the address of either.
 use Rattle.std.proofs.Common.{◌≡◌, ◌≢◌, ℕ, Bool, sym, ap, ◌∙◌}
 use Rattle.std.specs.Prelude.{if◌then◌else◌, is_some, Option, Some, None}
-use Rattle.cil_model.specs.declared.phases.Phase.TheVariants.{Copy, PreFlip, HeapFlip, ThreadFlip}
 use Rattle.object_memory.specs.declared.addresses.Addr.{Addr}
 use Rattle.object_memory.specs.declared.values.Value.{Value}
-use Rattle.object_memory.specs.Cells.{Cell, Cells, size, cell_in, change_in, store_slot}
+use Rattle.object_memory.specs.Cells.{Cell, Cells, size, cell_in, change_in}
 use Rattle.object_memory.specs.Spaces.{Spaces, AreSpaces, change_at, change_copies, change_if, other_of}
 use Rattle.object_memory.specs.Objects.{Objects}
-use Rattle.object_memory.specs.Values.{value_word}
 use Rattle.object_memory.proofs.Blocks.{other_in, unchanged_in}
-use Rattle.object_memory.proofs.TwoSpaces.TwoBlocks.{apart, new_is_cell, not_new, not_old, old_is_cell, slot_keeps}
-use Rattle.barriers.specs.Barriers.{forward_value, stored_value, with_both}
+use Rattle.object_memory.proofs.TwoSpaces.TwoBlocks.{apart, new_is_cell, not_new, not_old, old_is_cell}
+use Rattle.barriers.specs.Barriers.{with_both}
 
 -- the two copies of an object, each of which holds the other's address
 pub record AreTwins (m : Spaces) (a b : Addr) (c d : Cell) : Type 0 where
@@ -67,32 +65,3 @@ module _ (f g : Cell → Cell) (keeps : (c : Cell) → size (f c) ≡ size c) (k
       ap (λ (t : Bool). record o { spaces = if t then change_copies f g m b else change_copies g f m b }) (ap is_some no_old)
       ∙ ap (λ (r : Option Addr). record o { spaces = change_if f (change_at g m b) r }) (ap other_of (new_is_cell m h b d twins.new) ∙ twins.back)
       ∙ new_then_old
-
--- ---- values
-
-module _ (o : Objects) (h : AreSpaces o.spaces) (a b : Addr) (c d : Cell) (twins : AreTwins o.spaces a b c d) (slot : ℕ) (v : Value) where
-  -- once words are copied, the old copy gets the value and the new one its forward
-  abbrev forwarding : Objects
-  forwarding = with_twins (store_slot slot (value_word v)) (store_slot slot (value_word (forward_value o v))) o a b
-
-  pub stored_in_copy : (stored_value Copy o a slot v ≡ forwarding) × (stored_value Copy o b slot v ≡ forwarding)
-  stored_in_copy = (
-    through_old (store_slot slot (value_word v)) (store_slot slot (value_word (forward_value o v))) (slot_keeps slot (value_word v)) (slot_keeps slot (value_word (forward_value o v))) o h a b c d twins,
-    through_new (store_slot slot (value_word v)) (store_slot slot (value_word (forward_value o v))) (slot_keeps slot (value_word v)) (slot_keeps slot (value_word (forward_value o v))) o h a b c d twins,
-  )
-
-  pub stored_in_pre_flip : (stored_value PreFlip o a slot v ≡ forwarding) × (stored_value PreFlip o b slot v ≡ forwarding)
-  stored_in_pre_flip = stored_in_copy
-
-  pub stored_in_heap_flip : (stored_value HeapFlip o a slot v ≡ forwarding) × (stored_value HeapFlip o b slot v ≡ forwarding)
-  stored_in_heap_flip = stored_in_copy
-
-  -- once threads hold new addresses, both get the value
-  abbrev twofold : Objects
-  twofold = with_twins (store_slot slot (value_word v)) (store_slot slot (value_word v)) o a b
-
-  pub stored_in_thread_flip : (stored_value ThreadFlip o a slot v ≡ twofold) × (stored_value ThreadFlip o b slot v ≡ twofold)
-  stored_in_thread_flip = (
-    through_old (store_slot slot (value_word v)) (store_slot slot (value_word v)) (slot_keeps slot (value_word v)) (slot_keeps slot (value_word v)) o h a b c d twins,
-    through_new (store_slot slot (value_word v)) (store_slot slot (value_word v)) (slot_keeps slot (value_word v)) (slot_keeps slot (value_word v)) o h a b c d twins,
-  )

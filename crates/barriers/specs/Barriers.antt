@@ -1,6 +1,6 @@
 -- What stores, births and comparisons of references do to what the heap and the static fields hold, by the phase that the thread has
 -- acknowledged (Hudson and Moss, "Sapphire"; this profile). Each rule of an instruction, a monitor or a start of a thread cites these.
-use Rattle.std.specs.Prelude.{◌≡◌, ℕ, ◌==◌, ◌&&◌, if◌then◌else◌, nat_lt, Bool, true, List, length, Option, is_some, slice_set}
+use Rattle.std.specs.Prelude.{ℕ, ◌==◌, ◌&&◌, if◌then◌else◌, nat_lt, Bool, true, List, length, Option, is_some, slice_set}
 use Rattle.std.specs.Option.{option_map_or}
 use Rattle.cil_model.specs.declared.phases.Phase.{Phase}
 use Rattle.cil_model.specs.declared.phases.Phase.TheVariants.{Idle, Mark, Allocate, Copy, PreFlip, HeapFlip, ThreadFlip, Reclaim}
@@ -160,10 +160,6 @@ comparison_address phase o a = if compares_forwards phase then forward o.spaces 
 -- whether they can be compared: a forward is that of something that is there
 abbrev pub are_comparable : Phase → Objects → Addr → Addr → Bool
 are_comparable phase o a b = if compares_forwards phase then is_there o.spaces a && is_there o.spaces b else true
-
--- two references are of one object, or both null
-abbrev pub AreOfOneObject : Phase → Objects → Addr → Addr → Type 0
-AreOfOneObject phase o a b = (comparison_address phase o a).number ≡ (comparison_address phase o b).number
 
 -- the test of it (III.1.5, table 4)
 abbrev pub are_same : Phase → Objects → Addr → Addr → Bool
