@@ -131,9 +131,6 @@ module _ (tree : Tree) where
 
   -- ---- bases
 
-  pub no_base : (n : ℕ) → class_name tree n ≡ None → Named.Object ≡ parent_element (base_of tree (class_named tree n))
-  no_base n e = let P : ClassName → Type 0 = λ x. Named.Object ≡ parent_element (base_of tree x) in subst P (sym (unnamed n e)) refl
-
   -- the base by its number is the base by its name
   pub base_at : IsLegal tree → (n : ℕ) (k : ResolvedClass) → IsClassAt tree n k → option_map (class_name tree) k.base ≡ option_map Some (base_of tree (class_named tree n))
   base_at legal n k (c, d, at, alike) =

@@ -2,7 +2,7 @@ pub mod Classes
 pub mod AncestorChains
 pub mod DepthLaws
 pub mod LineLaws
-pub mod ShortStacks
+pub mod PushedStacks
 pub mod Operands
 pub mod MemberLaws
 pub mod MemberRules

@@ -101,9 +101,6 @@ module _ (tree : Tree) where
       let member : (slice_get d.fields f.index ≡ Some is.found) × (name ≡ is.declared_in) = member_of_class (λ y. y.fields) f.class f.index is.declared_in name d is.found at is.has_id in
       none_is_some is.found (sym (alike_beyond (IsResolvedField tree) d.fields k.fields alike.fields f.index e) ∙ member.0)
 
-  pub field_nowhere : (b : Bool) (r : FieldReference) (f : FieldId) → IsField tree b r f → class_name tree f.class ≡ None → ⊥
-  field_nowhere b r f is none = member_nowhere (λ y. y.fields) f.class f.index is.declared_in is.found none is.has_id
-
   is_abstract_too : (named : MethodKind) (resolved : ResolvedKind) → IsResolvedKind tree named resolved → is_abstract_kind resolved ≡ is_abstract_method named
   is_abstract_too (NamedKind.Static code) (KindOf.Static body) h = refl
   is_abstract_too (NamedKind.Instance code) (KindOf.Instance body) h = refl

@@ -33,7 +33,7 @@ pub const INT64: StackEntry = StackEntry::Declared(ResolvedType {
 });
 
 /// Puts an entry on the stack. The only error is out of memory.
-#[tactic(auto, using(crate::proofs::ShortStacks::after_push))]
+#[tactic(auto, using(crate::proofs::PushedStacks::after_push))]
 pub fn put(entry: StackEntry, stack: &mut TypeStack) -> Result<(), FlowError>
     ensures { (tree : Tree) → IsAfter tree result stack.new (Some (stack_type tree entry ∷ stack_types tree stack.old)) }
 {
