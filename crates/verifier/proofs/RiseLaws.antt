@@ -1,5 +1,5 @@
 -- What rises has fewer types above it.
-use Rattle.std.proofs.Common.{◌≡◌, ◌≤◌, ◌<◌, ◌+◌, ◌*◌, ◌^◌, ℕ, zero, suc, ℤ, pos, negsuc, ◌≤ℤ◌, List, [], ◌∷◌, ◌++◌, length, Option, Some, None, option_and_then, slice_get, slice_set, refl, sym, ap, subst, arith}
+use Rattle.std.proofs.Common.{◌≡◌, ◌≤◌, ◌<◌, ◌+◌, ◌*◌, ◌^◌, ℕ, zero, suc, ℤ, pos, negsuc, ◌≤ℤ◌, List, [], ◌∷◌, length, Option, Some, None, option_and_then, slice_get, slice_set, refl, sym, ap, subst, arith}
 use Rattle.std.proofs.lemmas.Int.{ints}
 use Rattle.std.specs.Option.{option_map_or}
 use Rattle.std.proofs.lemmas.Option.{same_Some}
@@ -88,10 +88,6 @@ module _ (tree : Tree) where
       let others : stack_rises tree rest ≤ length rest * suc (most_rises tree) = stack_bounded rest in
       let split : suc (length rest) * suc (most_rises tree) ≡ suc (most_rises tree) + length rest * suc (most_rises tree) = grind arith in
       omega (arith, first, others, split)
-
-  pub stack_rises-append : (xs ys : List StackType) → stack_rises tree (xs ++ ys) ≡ stack_rises tree xs + stack_rises tree ys
-  stack_rises-append [] ys = omega arith
-  stack_rises-append (x ∷ xs) ys = let further : stack_rises tree (xs ++ ys) ≡ stack_rises tree xs + stack_rises tree ys = stack_rises-append xs ys in omega (arith, further)
 
   -- ---- tables
 

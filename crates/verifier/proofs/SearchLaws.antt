@@ -1,7 +1,7 @@
 -- What a search does by numbers, in names.
 use Rattle.std.proofs.Common.{◌≡◌, ◌≤◌, ◌<◌, ◌+◌, ℕ, zero, suc, Bool, true, false, ℤ, pos, ◌≤ℤ◌, List, [], ◌∷◌, ◌++◌, length, map, take, drop, get_or, Option, Some, None, option_map, slice_get, slice_set, refl, sym, ap, ◌∙◌, subst, arith}
 use Rattle.std.specs.Prelude.{Contains, Result, Ok, Err, OnOk, IfErr}
-use Rattle.std.proofs.lemmas.List.{length-map, take_more, take_all, take-append-drop}
+use Rattle.std.proofs.lemmas.List.{length-map, take_more, take-append-drop}
 use Rattle.std.proofs.lemmas.List.Elements.{Contains-append_left}
 use Rattle.std.proofs.lemmas.Bool.{false≢true}
 use Rattle.std.proofs.lemmas.Option.{slice_get-map, same_Some}
@@ -20,7 +20,7 @@ use Rattle.verifier.specs.declared.merging.StackMerge.{StackMerge}
 use Rattle.verifier.specs.declared.search.Search.{Search}
 use Rattle.verifier.proofs.StackLaws.{below_itself}
 use Rattle.verifier.proofs.RiseLaws.{table_falls, first_falls}
-use Rattle.verifier.proofs.TableLaws.{no_ways, next_way, rise_first, rise_merged, rise_same, off_the_end, too_high, apart, no_next_way}
+use Rattle.verifier.proofs.TableLaws.{next_way, rise_first, rise_merged, rise_same, off_the_end, too_high, apart, no_next_way}
 use Rattle.cil_model.proofs.Lists.{none_is_some, none_is_outside}
 
 map_set : {X Y : Type 0} (f : X → Y) (xs : List X) (n : ℕ) (x : X) → map f (slice_set xs n x) ≡ slice_set (map f xs) n (f x)
@@ -155,11 +155,6 @@ module _ (tree : Tree) where
   -- ---- along more ways
 
   module _ (max_stack : ℤ) (after : List StackEntry) where
-    pub all_begun : (old : Search) → IsRisen tree max_stack after [] old old
-    all_begun old =
-        let low : work_left tree max_stack old ≤ work_left tree max_stack old = omega arith in
-        (no_ways tree max_stack (stack_types tree after) (typing_of tree old.rows.items) old.is_pending.items, low)
-
     pub all_more : (ways : List ℕ) (n d : ℕ) (old middle new : Search) → n < length ways → IsRisen tree max_stack after (take n ways) old middle → IsRisen tree max_stack after (get_or ways n d ∷ []) middle new →
         IsRisen tree max_stack after (take (n + 1) ways) old new
     all_more ways n d old middle new inside before one =
@@ -183,6 +178,3 @@ module _ (tree : Tree) where
     pub still_whole : (ways : List ℕ) (old new : Search) → IsWhole old → IsRisen tree max_stack after ways old new → IsWhole new
     still_whole ways old new w h =
         h.0.flags ∙ w ∙ sym (length-map old.rows.items (option_map (stack_types tree))) ∙ sym h.0.whole ∙ length-map new.rows.items (option_map (stack_types tree))
-
-    pub all_risen : (old new : Search) (ways : List ℕ) (n : ℕ) → length ways ≤ n → IsRisen tree max_stack after (take n ways) old new → IsRisen tree max_stack after ways old new
-    all_risen old new ways n past h = subst (λ (w : List ℕ). IsRisen tree max_stack after w old new) (take_all n ways past) h

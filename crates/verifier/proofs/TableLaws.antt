@@ -72,18 +72,6 @@ flag_cases pending way pc c = by_case (set_cases pending way true pc)
 -- ---- raising
 
 module _ (tree : Tree) (max_stack : ℤ) (after : List StackType) where
-  pub no_ways : (found : Typing) (pending : List Bool) → HasRisen tree max_stack after [] found pending found pending
-  no_ways found pending = record {
-    whole = refl;
-    reached = λ way c. nothing_contained way c;
-    kept = λ pc stack r. r;
-    others = λ pc. inl refl;
-    waiting = λ pc c. c;
-    flags = refl;
-    least = λ typing under ways. under;
-    low = λ l. l;
-  }
-
   pub next_way : (ways : List ℕ) (way : ℕ) (found middle later : Typing) (pending mid_pending still_pending : List Bool) →
       HasRisen tree max_stack after ways found pending middle mid_pending → HasRisen tree max_stack after (way ∷ []) middle mid_pending later still_pending →
       HasRisen tree max_stack after (ways ++ way ∷ []) found pending later still_pending

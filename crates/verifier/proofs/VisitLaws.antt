@@ -1,7 +1,7 @@
 -- One visit of a search by numbers, its beginning and its end.
 use Rattle.std.proofs.Common.{◌≡◌, ◌≤◌, ◌<◌, ◌+◌, ℕ, zero, suc, ℤ, pos, negsuc, ◌≤ℤ◌, List, [], ◌∷◌, length, replicate, Option, Some, None, option_map, slice_get, slice_set, Bool, true, false, refl, sym, ap, ◌∙◌, subst, arith}
 use Rattle.std.specs.Prelude.{Result, Ok, Err, OnOk}
-use Rattle.std.proofs.lemmas.List.{length-map, length-set}
+use Rattle.std.proofs.lemmas.List.{length-map}
 use Rattle.std.proofs.lemmas.Int.{ints}
 use Rattle.std.proofs.lemmas.Option.{slice_get-map, slice_get_within, same_Some}
 use Rattle.cil_model.specs.declared.types.DeclaredType.{DeclaredType}
@@ -184,16 +184,6 @@ work_taken tree max_stack old new pc rows flag pending =
     omega (arith, same, fewer, counted)
 
 -- ---- a flag for each pc
-
-pub begun_whole : (n : ℕ) (s : Search) → s.rows.items ≡ replicate n None → s.is_pending.items ≡ replicate n false → IsWhole s
-begun_whole n s rows flags = ap length flags ∙ same_count n ∙ ap length (sym rows)
-  where
-    same_count : (k : ℕ) → length {A = Bool} (replicate k false) ≡ length {A = Option (List StackEntry)} (replicate k None)
-    same_count zero = refl
-    same_count (suc k) = ap suc (same_count k)
-
-pub taken_whole : (old new : Search) (pc : ℕ) → IsWhole old → new.rows.items ≡ old.rows.items → new.is_pending.items ≡ slice_set old.is_pending.items pc false → IsWhole new
-taken_whole old new pc w rows pending = ap length pending ∙ length-set old.is_pending.items pc false ∙ w ∙ ap length (sym rows)
 
 pub rise_whole : {T : Type 0} (tree : Tree) (max_stack : ℤ) (after : List StackEntry) (ways : List ℕ) (old new : Search) (r : Result T RaiseError) → IsWhole old → IsRise tree max_stack after ways old new r → OnOk r (IsWhole new)
 rise_whole tree max_stack after ways old new (Ok done) w h = still_whole tree max_stack after ways old new w h
