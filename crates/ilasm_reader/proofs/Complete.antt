@@ -111,10 +111,6 @@ pub sign_no_word : (w : List ℕ) (s : symbols.Symbol) {ts rest : List Token} �
 unfolding word_at choice
 sign_no_word w s e = rw e refl
 
-integer_no_word : (w : List ℕ) (z : ℤ) {ts rest : List Token} → item (Integer z) ts rest → word_at w ts ≡ None
-unfolding word_at choice
-integer_no_word w z e = rw e refl
-
 pub word_no_word : (w v : List ℕ) {ts rest : List Token} → bytes_eq v w ≡ false → word v ts rest → word_at w ts ≡ None
 unfolding word_at choice
 word_no_word w v h e = rw (e, h) refl
@@ -126,10 +122,6 @@ end_no_word w = refl
 sign_no_name : (s : symbols.Symbol) {ts rest : List Token} → sign s ts rest → name_at ts ≡ None
 unfolding name_at choice
 sign_no_name s e = rw e refl
-
-word_no_name : (w : List ℕ) {ts rest : List Token} → word w ts rest → name_at ts ≡ None
-unfolding name_at choice
-word_no_name w e = rw e refl
 
 pub no_brackets : (ts : List Token) → sign_at OpenBracket ts ≡ None → brackets_at ts ≡ None
 unfolding brackets_at bind

@@ -435,9 +435,3 @@ pub tokens_fail : (failure : Failure) (bs start : List ℕ) → skip_gap between
 unfolding tokens_at bind
 tokens_fail OutOfMemory bs start g e = tt
 tokens_fail (Refused left expected) bs start g e = none_are_tokens bs (rw (g, e) refl)
-
--- white space or comments that do not end
-pub no_start : (failure : Failure) (bs : List ℕ) → Fails failure (skip_gap between bs) → IsTokenAnswer bs (Err failure)
-unfolding tokens_at bind
-no_start OutOfMemory bs e = tt
-no_start (Refused left expected) bs e = none_are_tokens bs (rw e refl)
