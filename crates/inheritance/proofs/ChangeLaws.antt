@@ -54,9 +54,6 @@ known_lower before t xs ys zs c e h k =
     let late : latest_known (latest_known before t ys) t zs ≡ latest_known before t ys = known_late (latest_known before t ys) t c.time zs h (both_first _ _ ends) in
     sym (ap (latest_known before t) e ∙ known-append t ys (c ∷ zs) before ∙ rw fails late)
 
-pub known_one : (before : Option Declared) (t : ℕ) (c : Change) → latest_known before t (c ∷ []) ≡ (if nat_le c.time t then c.found else before)
-known_one before t c = refl
-
 -- ---- one more change
 
 pub past_more : (xs : List Change) (c : Change) → is_past c.time xs ≡ true → is_past c.time (xs ++ c ∷ []) ≡ true

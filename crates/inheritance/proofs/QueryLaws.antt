@@ -35,9 +35,6 @@ noted_later test old new (c ∷ cs) l h = (
   noted_later test old new cs l h.1,
 )
 
-pub later_itself : (ends : List ℕ) → AreLater ends ends
-later_itself ends = record { width = refl; later = λ t. omega arith }
-
 pub later_both : (a b c : List ℕ) → AreLater a b → AreLater b c → AreLater a c
 later_both a b c h k = record { width = k.width ∙ h.width; later = λ t. let x : slice_index_or a t 0 ≤ slice_index_or b t 0 = h.later t in let y : slice_index_or b t 0 ≤ slice_index_or c t 0 = k.later t in omega (arith, x, y) }
 

@@ -40,16 +40,6 @@ pub record IsWalking (bases old : List (Option ℕ)) (first walk : ℕ) (marks :
   pub begun : (first ≡ class) ⊎ IsMarked marks first
   pub led : Leads bases first class
 
-pub walk_begins : (bases old : List (Option ℕ)) (first walk : ℕ) → IsWalking bases old first walk old first
-walk_begins bases old first walk = record {
-  width = refl;
-  kept = λ c w h. h;
-  newly = λ c w h. inl h;
-  based = λ c d marked none base. absurd (none-some marked.0 (sym none ∙ marked.1));
-  begun = inl refl;
-  led = (zero, refl);
-}
-
 module _ (bases old : List (Option ℕ)) (first walk : ℕ) (marks : List (Option ℕ)) (class : ℕ) (is : IsWalking bases old first walk marks class) (none : walk_at marks class ≡ None) (within : class < length marks) where
   abbrev marks' : List (Option ℕ)
   marks' = slice_set marks class (Some walk)

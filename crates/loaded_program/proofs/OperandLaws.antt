@@ -11,11 +11,8 @@ use Rattle.name_tables.specs.declared.ids.MethodId.{MethodId}
 use Rattle.name_tables.specs.Numbers.{field_at, method_at}
 use Rattle.resolved_code.specs.Resolved.{BothAlike}
 use Rattle.resolved_code.specs.ById.{class_name}
-use Rattle.resolved_code.specs.declared.types.ResolvedType.{ResolvedType}
-use Rattle.object_memory.specs.declared.kinds.ArrayElement.{ArrayElement}
-use Rattle.object_memory.specs.declared.kinds.ElementType.{ElementType}
 use Rattle.loaded_program.specs.AllMethods.{flat_number}
-use Rattle.loaded_program.specs.Operands.{small, key_at, slot_in, slot_at, static_in, static_at, array_held, element_held, slots_at}
+use Rattle.loaded_program.specs.Operands.{small, key_at, slot_in, slot_at, static_in, static_at, slots_at}
 use Rattle.loaded_program.specs.Links.{number_at}
 
 -- ---- options
@@ -119,9 +116,3 @@ pub has_id : (tree : Tree) (member : MethodId) (n : ℕ) → number_at tree memb
 has_id tree member n e =
     let found = map_some (λ (found : ClassName × Method). flat_number tree member.class member.index) (method_at tree (member.class, member.index)) n e in
     record { found = found.0; found_is = found.1; number_is = found.2 }
-
--- few brackets, and an element
-pub few_brackets : (t : ResolvedType) (required : ArrayElement) → array_held t ≡ Some required → (t.brackets < 256) × ((e : ElementType) × (element_held t.element ≡ Some e) × (record { element = e; brackets = t.brackets } ≡ required))
-few_brackets t required e =
-    let passed = if_some (nat_lt t.brackets 256) (option_map (λ e. record { element = e; brackets = t.brackets }) (element_held t.element)) required e in
-    (below t.brackets 256 passed.0, map_some (λ e. record { element = e; brackets = t.brackets }) (element_held t.element) required passed.1)

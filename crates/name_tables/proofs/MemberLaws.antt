@@ -5,7 +5,6 @@ use Rattle.std.specs.Option.{option_map_or}
 use Rattle.std.proofs.lemmas.Option.{none-some, same_Some, slice_get-get_or}
 use Rattle.std.proofs.lemmas.Bool.{true≢false}
 use Rattle.std.proofs.lemmas.List.{get_or_default}
-use Rattle.cil_model.proofs.SameLaws.{both_first, both_second}
 use Rattle.cil_model.specs.declared.types.ClassName.{ClassName}
 use Rattle.cil_model.specs.declared.trees.Tree.{Tree}
 use Rattle.cil_model.specs.Declarations.{Declaration}
@@ -124,19 +123,10 @@ mapped_from f (Some x) y e = (x, same_Some (f x) y e)
 
 -- ---- tests of all
 
-pub all_pass : {X : Type 0} (xs : List X) → list_all (λ x. true) xs ≡ true
-all_pass [] = refl
-all_pass (x ∷ xs) = all_pass xs
-
 pub some_where_some : {X Y : Type 0} (xs : List X) (ys : List Y) → list_all (λ x. false) xs ≡ list_all (λ y. false) ys → ys ≢ [] → 0 < length xs
 some_where_some (x ∷ xs) ys e h = omega arith
 some_where_some [] [] e h = absurd (h refl)
 some_where_some [] (y ∷ ys) e h = absurd (true≢false e)
-
-pub all_at : {X : Type 0} (test : X → Bool) (xs : List X) (i : ℕ) (d : X) → i < length xs → list_all test xs ≡ true → test (get_or xs i d) ≡ true
-all_at test [] i d h e = absurd (omega (arith, h))
-all_at test (x ∷ xs) zero d h e = both_first _ _ e
-all_at test (x ∷ xs) (suc i) d h e = all_at test xs i d (omega (arith, h)) (both_second _ _ e)
 
 -- ---- what a class itself declares
 

@@ -13,8 +13,7 @@ use Rattle.cil_model.specs.declared.instructions.MethodReference.{MethodReferenc
 use Rattle.cil_model.specs.declared.trees.Field.{Field}
 use Rattle.cil_model.specs.Chains.{nearest, listed_by, base_of, chain_within, chain_of, classes_searched, find_field, find_method}
 use Rattle.name_tables.specs.Sameness.{MethodIdentity, same_field, same_called, called_of}
-use Rattle.name_tables.specs.Numbers.{declarations, class_number, chain_numbers, source_entry, nearest_number, member_at, index_in, field_at, method_at, field_number, method_number}
-use Rattle.std.proofs.lemmas.Option.{slice_get-map}
+use Rattle.name_tables.specs.Numbers.{declarations, class_number, source_entry, nearest_number, member_at, index_in, field_at, method_at, field_number, method_number}
 use Rattle.name_tables.proofs.Lists.{option_map_of_map}
 use Rattle.cil_model.proofs.SameLaws.{class_equivalence, same_class_equal}
 use Rattle.name_tables.specs.SamenessLaws.{field_equivalence, called_equivalence}
@@ -233,8 +232,3 @@ module _ (tree : Tree) where
       let base : base_of tree c ≡ base_at n = ap (option_and_then (λ (d : Declaration). d.base)) found.1 ∙ sym (ap (option_and_then (λ (y : ClassName × Declaration). y.1.base)) found.2) in
       let k : suc m - 1 ≡ m = omega arith in
       ap (λ o. cons_option o (numbers_within m (base_of tree c))) e ∙ ap (λ b. n ∷ numbers_within m b) base ∙ ap (λ x. n ∷ numbers_within x (base_at n)) (sym k)
-
-  pub chain_at_number : (c : ClassName) (n : ℕ) → class_number tree c ≡ Some n → slice_get (map (λ (e : ClassName × Declaration). chain_numbers tree e.0) (declarations tree)) n ≡ Some (chain_numbers tree c)
-  chain_at_number c n e =
-      let found : (d : Declaration) × (declaration_of tree c ≡ Some d) × (slice_get (declarations tree) n ≡ Some (c, d)) = subst (HasId c) e (has_id c) in
-      slice_get-map (λ (e : ClassName × Declaration). chain_numbers tree e.0) (declarations tree) n ∙ ap (option_map (λ (e : ClassName × Declaration). chain_numbers tree e.0)) found.2

@@ -79,11 +79,6 @@ hidden_open tree k (n ∷ ns) = hidden_over tree k n (top_open tree k ns) (hidde
 abbrev pub stays_open : Tree → MethodIdentity → List ℕ → Bool
 stays_open tree k ns = hidden_open tree k ns || top_open tree k ns
 
--- whether a method with the name and signature of an abstract one of a class stays open along a chain (II.15.4.2)
-abbrev pub class_stays_open : Tree → List ℕ → ℕ → Bool
-class_stays_open tree chain n =
-    option_map_or (λ (e : ClassName × Declaration). list_any (λ (m : Method). is_abstract_method m.kind && stays_open tree (identity_of m) chain) e.1.methods) (slice_get (declarations tree) n) false
-
 -- each abstract method along a chain is overridden by the next nearer one (II.15.4.2)
 abbrev pub IsDecided : Tree → List ℕ → Type 0
 IsDecided tree ns = (k : MethodIdentity) → stays_open tree k ns ≡ false

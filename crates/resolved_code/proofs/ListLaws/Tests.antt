@@ -50,14 +50,6 @@ list_all_both {X} p q (x ∷ xs) = by_cases (p x) (q x) (list_all p xs) (list_al
     by_cases true true ps e = e
     by_cases true false ps e = and_false ps
 
-pub not_list_any : {X : Type 0} (p : X → Bool) (xs : List X) → not (list_any p xs) ≡ list_all (λ x. not (p x)) xs
-not_list_any p [] = refl
-not_list_any {X} p (x ∷ xs) = by_case (p x) (not_list_any p xs)
-  where
-    by_case : (b : Bool) → not (list_any p xs) ≡ list_all (λ x. not (p x)) xs → not (b || list_any p xs) ≡ not b && list_all (λ x. not (p x)) xs
-    by_case true e = refl
-    by_case false e = e
-
 -- an item that passes changes no test of what is left
 pub all_after : {X : Type 0} (p : X → Bool) (xs : List X) (i : ℕ) (x : X) → i < length xs → x ≡ get_or xs i x → p x ≡ true → list_all p (drop (i + 1) xs) ≡ list_all p (drop i xs)
 all_after p xs i x l e h =
@@ -74,9 +66,6 @@ second_fails a b c d e h = ap (λ x. a && x && c && d && e) h ∙ ap (λ x. x &&
 
 pub third_fails : (a b c d e : Bool) → c ≡ false → a && b && c && d && e ≡ false
 third_fails a b c d e h = ap (λ x. a && b && x && d && e) h ∙ ap (λ x. x && d && e) (and_false (a && b))
-
-pub fourth_fails : (a b c d e : Bool) → d ≡ false → a && b && c && d && e ≡ false
-fourth_fails a b c d e h = ap (λ x. a && b && c && x && e) h ∙ ap (λ x. x && e) (and_false (a && b && c))
 
 pub last_two_decide : (a b c d e : Bool) → a ≡ true → b ≡ true → c ≡ true → a && b && c && d && e ≡ d && e
 last_two_decide a b c d e h i j = ap (λ x. x && b && c && d && e) h ∙ ap (λ x. x && c && d && e) i ∙ ap (λ x. x && d && e) j
