@@ -1,9 +1,9 @@
 -- Bytes that were taken, one piece after another.
-use Rattle.std.proofs.Common.{◌≡◌, ◌+◌, ◌-◌, ◌<◌, flat_map, get_or, ℕ, List, [], ◌++◌, Option, refl, sym, ap, subst, ◌∙◌, length, take, drop, append_assoc, append-nil, take-append-drop}
+use Rattle.std.proofs.Common.{◌≡◌, ◌+◌, ◌-◌, ◌<◌, flat_map, get_or, ℕ, List, [], ◌++◌, Option, refl, sym, ap, subst, ◌∙◌, length, take, drop, append_assoc, take-append-drop}
 use Rattle.std.proofs.lemmas.Grind.{flat_map-append}
 use Rattle.std.proofs.lemmas.List.{drop_more, take_rest}
-use Rattle.std.proofs.KnownBytes.{Appends-kept, Appends-nil, Appends-trans}
-use Rattle.std.specs.Io.KnownBytes.{Appends, Keeps}
+use Rattle.std.proofs.KnownBytes.{Appends-nil, Appends-trans}
+use Rattle.std.specs.Io.KnownBytes.{Appends}
 use Rattle.outputs.specs.Beginnings.{AppendsBeginning}
 
 -- a writer has taken all but the rest of these bytes
@@ -11,9 +11,6 @@ pub record TakenButFor (old new : Option (List ℕ)) (whole rest : List ℕ) : T
   pub done : List ℕ
   pub split : whole ≡ done ++ rest
   pub appended : Appends old new done
-
-pub nothing_taken : (old : Option (List ℕ)) (whole : List ℕ) → TakenButFor old old whole whole
-nothing_taken old whole = record { done = []; split = refl; appended = Appends-nil old }
 
 pub taken_more : (a b c : Option (List ℕ)) (whole rest : List ℕ) (n : ℕ) → TakenButFor a b whole rest → Appends b c (take n rest) → TakenButFor a c whole (take (length rest - n) (drop n rest))
 taken_more a b c whole rest n h more =
@@ -24,22 +21,10 @@ taken_more a b c whole rest n h more =
       appended = Appends-trans a b c h.done (take n rest) h.appended more;
     }
 
-pub taken_kept : (a b c : Option (List ℕ)) (whole rest : List ℕ) → TakenButFor a b whole rest → Keeps b c → TakenButFor a c whole rest
-taken_kept a b c whole rest h kept = record { done = h.done; split = h.split; appended = Appends-kept a b c h.done h.appended kept }
-
-pub taken_whole : (a b : Option (List ℕ)) (whole rest : List ℕ) → TakenButFor a b whole rest → rest ≡ [] → Appends a b whole
-taken_whole a b whole rest h empty = subst (Appends a b) (sym (h.split ∙ ap (λ l. h.done ++ l) empty ∙ append-nil h.done)) h.appended
-
-pub taken_begins : (a b : Option (List ℕ)) (whole rest : List ℕ) → TakenButFor a b whole rest → AppendsBeginning a b whole
-taken_begins a b whole rest h = (h.done, (rest, h.split), h.appended)
-
 -- ---- beginnings
 
 pub begins_nothing : (old : Option (List ℕ)) (whole : List ℕ) → AppendsBeginning old old whole
 begins_nothing old whole = ([], (whole, refl), Appends-nil old)
-
-pub begins_whole : (old new : Option (List ℕ)) (whole : List ℕ) → Appends old new whole → AppendsBeginning old new whole
-begins_whole old new whole h = (whole, ([], sym (append-nil whole)), h)
 
 -- a beginning of the first piece begins both
 pub begins_first : (old new : Option (List ℕ)) (first more : List ℕ) → AppendsBeginning old new first → AppendsBeginning old new (first ++ more)

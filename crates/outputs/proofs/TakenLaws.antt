@@ -1,6 +1,6 @@
 -- Bytes that an output has taken, one piece after another, until a call failed.
-use Rattle.std.proofs.Common.{◌≡◌, ◌<◌, ◌++◌, ◌∙◌, ℕ, false, inl, inr, refl, subst, Some, zero, suc, List, [], arith}
-use Rattle.std.proofs.KnownBytes.{Appends-nil, Appends-trans}
+use Rattle.std.proofs.Common.{◌≡◌, ◌<◌, ◌++◌, ◌∙◌, ℕ, false, refl, subst, Some, zero, suc, List, arith}
+use Rattle.std.proofs.KnownBytes.{Appends-trans}
 use Rattle.outputs.specs.Taken.{Fails, HasGrown, Taken, Takes, is_failure}
 use Rattle.outputs.proofs.BeginningLaws.{begins_first, begins_second}
 
@@ -8,15 +8,6 @@ use Rattle.outputs.proofs.BeginningLaws.{begins_first, begins_second}
 pub took_some : (count : ℕ) (bytes : List ℕ) → 0 < count → is_failure (Some count) bytes ≡ false
 took_some zero bytes below = absurd (omega (arith, below))
 took_some (suc count) bytes below = refl
-
--- a count that has grown twice has grown
-pub grown_twice : (a b c : ℕ) → HasGrown a b → HasGrown b c → HasGrown a c
-grown_twice a b c (inl first) (inl second) = inl (omega (arith, first, second))
-grown_twice a b c (inr first) (inl second) = inr (omega (arith, first, second))
-grown_twice a b c first (inr second) = inr second
-
-pub takes_nothing : (a : Taken) → Takes a a []
-takes_nothing a = (Appends-nil a.contents, refl)
 
 -- both pieces are taken
 pub takes_both : (a b c : Taken) (first more : List ℕ) → Takes a b first → Takes b c more → Takes a c (first ++ more)

@@ -2,7 +2,6 @@
 use Rattle.std.proofs.Common.{◌≡◌, ◌⊎◌, ℕ, zero, suc, ◌==◌, Bool, true, false, not, ◌||◌, ◌&&◌, if◌then◌else◌, List, [], ◌∷◌, map, Option, Some, None, option_map, slice_get, slice_set, refl, inl, inr, sym, ap, ◌∙◌, subst}
 use Rattle.std.specs.Prelude.{option_and_then}
 use Rattle.std.specs.List.{list_all}
-use Rattle.std.specs.Option.{option_map_or}
 use Rattle.std.proofs.lemmas.Option.{same_Some, slice_get-map}
 use Rattle.std.proofs.lemmas.Bool.{and_parts, eqb-true}
 use Rattle.std.proofs.lemmas.List.{length-map, length-set}
@@ -11,7 +10,7 @@ use Rattle.cil_model.specs.declared.phases.Phase.TheVariants.{Idle, Mark, Alloca
 use Rattle.cil_model.proofs.Lists.{none_is_some, set_or_was}
 use Rattle.reference_machine.specs.Cycles.{phase_after}
 use Rattle.phase_handshake.specs.declared.posts.Seat.{Seat}
-use Rattle.phase_handshake.specs.Handshakes.{Handshakes, AreClose, IsClose, acknowledge_phase, all_seen, has_seen, is_open_to, is_phase, join_thread, phase_number, leave_handshakes, posted_next, posted_round, seat_after, seat_of, clear_answer, without_round}
+use Rattle.phase_handshake.specs.Handshakes.{Handshakes, AreClose, IsClose, all_seen, has_seen, is_open_to, is_phase, join_thread, phase_number, leave_handshakes, posted_round, seat_after, seat_of, clear_answer, without_round}
 
 -- ---- phases
 
@@ -102,21 +101,6 @@ module _ (h : Handshakes) (are : AreClose h) where
   pub answered_close : (t : ℕ) (s : Seat) → seat_of h t ≡ Some s → is_open_to h.posted_phase h.has_round s ≡ true → AreClose (record h { seats = slice_set h.seats t (Some (seat_after h.posted_phase s)) })
   answered_close t s here opened = with_seat t (Some (seat_after h.posted_phase s)) (λ r e. subst (λ (x : Seat). IsClose h x × (x.answered ≡ true → h.has_round ≡ true)) (same_Some (seat_after h.posted_phase s) r e) (after_fits s opened (are.answers t s here)))
 
-  -- a thread acknowledges
-  pub acknowledged_close : (t : ℕ) → AreClose (acknowledge_phase h t)
-  acknowledged_close t = by_seat (seat_of h t) refl
-    where
-      after : Option Seat → Handshakes
-      after o = option_map_or (λ (s : Seat). if is_open_to h.posted_phase h.has_round s then record h { seats = slice_set h.seats t (Some (seat_after h.posted_phase s)) } else h) o h
-
-      by_seat : (o : Option Seat) → seat_of h t ≡ o → AreClose (after o)
-      by_seat None e = are
-      by_seat (Some s) e = by_open (is_open_to h.posted_phase h.has_round s) refl
-        where
-          by_open : (b : Bool) → is_open_to h.posted_phase h.has_round s ≡ b → AreClose (if b then record h { seats = slice_set h.seats t (Some (seat_after h.posted_phase s)) } else h)
-          by_open true opened = answered_close t s e opened
-          by_open false opened = are
-
 -- ---- posts
 
 -- the seat of a thread without its answer, and with it
@@ -181,10 +165,3 @@ module _ (h : Handshakes) (are : AreClose h) where
 
         decoded_before : (t : ℕ) (s : Seat) → s.answered ≡ true → (r : Seat) × (seat_of h t ≡ Some r) × (s ≡ record r { answered = false }) → false ≡ true
         decoded_before t s answered (r, here, is) = sym (ap (λ (x : Seat). x.answered) is) ∙ answered
-
-    pub next_close : AreClose (posted_next h)
-    next_close = by_test (is_phase (phase_after h.posted_phase) Mark)
-      where
-        by_test : (b : Bool) → AreClose (record (if b then without_round h else h) { posted_phase = phase_after h.posted_phase })
-        by_test true = cycle_close
-        by_test false = phase_close

@@ -1,9 +1,9 @@
 -- Slots whose first ones hold words are a sequence of words, after a store and after more words come into use.
-use Rattle.std.proofs.Common.{◌≡◌, ℕ, zero, suc, ◌+◌, ◌-◌, ◌<◌, ◌≤◌, List, [], ◌∷◌, ◌++◌, length, take, drop, set, get_or, replicate, refl, sym, ap, ap₂, ◌∙◌, arith, length-append, append_assoc, append-nil}
+use Rattle.std.proofs.Common.{◌≡◌, ℕ, zero, suc, ◌+◌, ◌-◌, ◌<◌, ◌≤◌, List, [], ◌∷◌, ◌++◌, length, take, drop, set, get_or, replicate, refl, sym, ap, ap₂, ◌∙◌, arith, length-append, append_assoc}
 use Rattle.std.specs.Prelude.{Option, Some, None, map}
 use Rattle.std.proofs.Math.ListN.{length-set}
 use Rattle.std.proofs.Math.Seq.{take-set-lt, take-append_seam}
-use Rattle.std.proofs.lemmas.List.{length-map, map-set, get_or-map, get_or_append_left, get_or-take, map-append, set-append_left, set-append_right, length-take-le, length-drop, length-replicate, replicate_more, replicate-append-replicate, take-append-drop}
+use Rattle.std.proofs.lemmas.List.{length-map, map-set, get_or-map, get_or_append_left, get_or-take, map-append, set-append_left, set-append_right, length-take-le, length-drop, length-replicate, replicate_more, replicate-append-replicate}
 use lib.Seq.{drop-cons}
 use Rattle.space_block.specs.Rows.{blank}
 use Rattle.space_block.specs.Written.{AreWritten, row_of, written_words}
@@ -25,14 +25,6 @@ map-zeros (suc n) = ap (λ ys. Some 0 ∷ ys) (map-zeros n)
 -- the slots with 0 in those from `from` on and below `to`
 abbrev pub cleared : List (Option ℕ) → ℕ → ℕ → List (Option ℕ)
 cleared cs from to = take from cs ++ zero_places (to - from) ++ drop to cs
-
--- a range without slots
-pub cleared_none : (cs : List (Option ℕ)) (from : ℕ) → cs ≡ cleared cs from from
-cleared_none cs from =
-    let none : 0 ≡ from - from = omega arith in
-    sym (take-append-drop from cs)
-    ∙ ap (λ ds. ds ++ drop from cs) (sym (append-nil (take from cs)))
-    ∙ ap (λ k. take from cs ++ zero_places k ++ drop from cs) none
 
 -- one slot more
 pub cleared_more : (cs : List (Option ℕ)) (from i : ℕ) → from ≤ i → i < length cs → set (cleared cs from i) i (Some 0) ≡ cleared cs from (i + 1)

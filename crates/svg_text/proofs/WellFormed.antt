@@ -1,5 +1,5 @@
 -- Content that is well formed.
-use Rattle.std.proofs.Common.{◌∷◌, append-nil, append_assoc, codes, ◌≡◌, ◌++◌, ℕ, Bool, true, false, List, [], Option, Some, sym, ap, subst, ◌∙◌}
+use Rattle.std.proofs.Common.{◌∷◌, append-nil, append_assoc, codes, ◌≡◌, ◌++◌, ℕ, Bool, true, false, List, [], Option, sym, ap, subst, ◌∙◌}
 use Rattle.std.proofs.Math.Logic.{∥∥₁_elim, ∥∥₁_map, ∥∥₁_prop}
 use Rattle.svg_text.specs.Contents.{Adds, AddsIfWhole, IsContent, IsDocument, IsFormed, both, element, empty, nothing, text_if_whole, words}
 use Rattle.svg_text.specs.declared.markup.Attribute.{Attribute}
@@ -57,6 +57,3 @@ adds_made old new inside whole text piece made view is same adds =
 
 pub document_formed : (whole : Bool) (text : List ℕ) (attributes : List Attribute) (document : List ℕ) → whole ≡ true → document ≡ element_text Svg attributes text → ∥ IsFormed whole text ∥₁ → ∥ IsDocument document ∥₁
 document_formed whole text attributes document is same h = ∥∥₁_map h (λ formed. (attributes, text, formed is, same))
-
-pub whole_text : (whole : Bool) (text : List ℕ) (view : Option (List ℕ)) → text_if_whole whole text ≡ view → whole ≡ true → view ≡ Some text
-whole_text whole text view e is = sym e ∙ ap (λ w. text_if_whole w text) is

@@ -1,5 +1,5 @@
 -- What a word names.
-use Rattle.std.proofs.Common.{◌≡◌, ℕ, zero, suc, ◌+◌, ◌<◌, Option, Some, None, IfSome, List, [], ◌∷◌, ◌++◌, length, length-append, map, option_map, set, slice_get, slice_index, ap, sym, ◌∙◌, arith}
+use Rattle.std.proofs.Common.{◌≡◌, ℕ, zero, suc, ◌+◌, ◌<◌, Option, Some, None, List, [], ◌∷◌, ◌++◌, length, length-append, map, option_map, set, slice_get, slice_index, ap, sym, ◌∙◌, arith}
 use Rattle.std.proofs.lemmas.Option.{slice_get-get_or, slice_get-map}
 use Rattle.std.proofs.lemmas.List.{map-set}
 use Rattle.word_flip.specs.Objects.{object_of}
@@ -11,11 +11,6 @@ named (suc n) object e = ap Some (let same : n ≡ object = omega arith in same)
 
 pub null : (word : ℕ) → word ≡ 0 → object_of word ≡ None
 null word e = ap object_of e
-
--- a word below the limit names null, or an object below the number of objects
-pub named_below : (word objects : ℕ) → word < objects + 1 → IfSome (object_of word) (λ object. object < objects)
-named_below zero objects l = tt
-named_below (suc n) objects l = omega arith
 
 -- one more is written
 pub one_more : (wrote : List (ℕ × ℕ)) (slot value : ℕ) → length (wrote ++ (slot, value) ∷ []) ≡ length wrote + 1
