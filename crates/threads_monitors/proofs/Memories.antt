@@ -42,12 +42,6 @@ holds values running below depth room capacity most_below f fs l fit few large d
       };
     }
 
--- room for the first frame
-pub room_at_first : (depth room n : ℕ) → 0 < depth → n ≤ room → n ≤ depth * room
-room_at_first depth room n some fits =
-    let all : 1 * room ≤ depth * room = mul-le 1 room depth room (omega (arith, some)) (omega arith) in
-    omega (arith, all, fits)
-
 -- the first memory: one frame on an empty value stack
 abbrev pub Begun : (arguments : List Value) (kinds : List ValueKind) (method depth room : ℕ) (values : List Value) (below : List Activation) (stack capacity most_below : ℕ) → Type 0
 Begun arguments kinds method depth room values below stack capacity most_below =
@@ -180,10 +174,6 @@ module _ (values : List Value) (running : Activation) (below : List Activation) 
   pub has_room_for_call : (n k : ℕ) → length fs + 1 < depth → n + k ≤ room → length values + k ≤ capacity
   has_room_for_call n k more fits =
       rows.room_for_call values running (reverse below) f fs s.lays room depth capacity s.fit more s.large k (omega (arith, fits))
-
-  -- the arguments of a call are there
-  pub has_arguments : (n : ℕ) → n ≤ length f.stack → n ≤ length values
-  has_arguments n less = omega (arith, less, rows.length_values values running (reverse below) f fs s.lays)
 
   -- room for a further frame
   pub has_depth : length fs + 1 < depth → length below < most_below
@@ -338,9 +328,6 @@ module _ (values : List Value) (running : Activation) (below : List Activation) 
 
   stack' : running'.stack ≡ length (row other.below) + (length other.running.arguments + length other.running.locals)
   stack' = ap (λ (a : Activation). a.stack) s'.lays.running_is
-
-  pub start_within : running'.arguments ≤ length values'
-  start_within = omega (arith, starts', rows.length_values values' running' (reverse below') other.running other.below s'.lays)
 
   pub in_order : (running'.arguments ≤ running'.locals) × (running'.locals ≤ running'.stack)
   in_order = (omega (arith, starts', locals'), omega (arith, locals', stack'))

@@ -33,8 +33,8 @@ use Rattle.object_memory.specs.declared.addresses.Addr.{Addr}
 use Rattle.object_memory.specs.declared.monitors.Monitor.{Monitor}
 use Rattle.object_memory.specs.declared.values.Value.{Value}
 use Rattle.object_memory.specs.declared.values.Value.TheVariants.{Int32, Int64, Native, Ref}
-use Rattle.object_memory.specs.Cells.{Cell, literal_number, null}
-use Rattle.object_memory.specs.Objects.{Objects, monitor_at, object_cell, object_slots}
+use Rattle.object_memory.specs.Cells.{null}
+use Rattle.object_memory.specs.Objects.{Objects, monitor_at, object_slots}
 use Rattle.simulation.specs.loaded_program.MethodNumbers.{number_of}
 use Rattle.threads_monitors.specs.Frames.{Frames, with_stack}
 use Rattle.threads_monitors.specs.declared.mutators.Mutator.{Mutator}
@@ -45,7 +45,7 @@ use Rattle.simulation.specs.instructions.Calls.{call_transition}
 use Rattle.simulation.specs.instructions.Frames.{when_some}
 use Rattle.simulation.specs.instructions.ObjectTransitions.{ObjectTransition, beside}
 use Rattle.simulation.specs.instructions.BuiltInTransitions.{carry, is_countable, reference_from}
-use Rattle.simulation.specs.interpreter.Calls.{CallTransition, act_transition, beside_console, call_answer, called_as, chosen_method, chosen_by, class_at, class_of_kind, receiver, run_transition, top_reference, run_on}
+use Rattle.simulation.specs.interpreter.Calls.{CallTransition, act_transition, beside_console, call_answer, called_as, chosen_method, chosen_by, class_at, receiver, run_transition, top_reference, run_on}
 use Rattle.simulation.specs.interpreter.Instructions.{Answer, HasSmallConstant, IsAt, IsDone, MachineTransition, answer_of, line_at, of_calls, operation_transition}
 use Rattle.simulation.proofs.interpreter.LinkedTransitions.{call_does, virtual_does}
 use Rattle.simulation.specs.interpreter.declared.outcomes.InstructionOutcome.TheVariants.{OwnEffect, Joins}
@@ -235,14 +235,3 @@ module _ (c : MachineState) (t left : ℕ) (m : Frames) (ready : IsReady c t m) 
     monitor = λ op at acts x top apart. enters op at x top apart acts;
     slot = λ op at acts x top apart. joins op at x top apart acts;
   }
-
--- ---- what lies at an address
-
--- where there is a monitor there is an object or a literal
-pub class_is_there : (o : Objects) (a : Addr) → IsSome (monitor_at o a) → IsSome (class_at o a)
-class_is_there o a there = by_literal (literal_number a) (object_cell o a) there
-  where
-    by_literal : (n : Option ℕ) (cell : Option Cell) → IsSome (option_map_or (slice_get o.literals) n (option_map (λ (c : Cell). c.monitor) cell)) → IsSome (option_map_or (λ k. Some (Some 1)) n (option_map (λ (c : Cell). class_of_kind c.kind) cell))
-    by_literal (Some n) cell h = refl
-    by_literal None (Some cell) h = refl
-    by_literal None None h = absurd cc

@@ -1,8 +1,7 @@
 -- The thread at an index of a machine, and the machine after a change of that thread.
-use Rattle.std.proofs.Common.{◌≡◌, ◌<◌, ℕ, true, false, List, ◌++◌, length, take, drop, Option, Some, None, option_map, slice_get, slice_set, refl, sym, ap, ◌∙◌, subst}
+use Rattle.std.proofs.Common.{◌≡◌, ◌<◌, ℕ, true, false, List, length, Option, Some, None, option_map, slice_get, slice_set, refl, sym, ap, ◌∙◌, subst}
 use Rattle.std.specs.Prelude.{IsSome, slice_index_or}
 use Rattle.std.specs.Option.{option_map_or}
-use Rattle.std.proofs.Math.Seq.{take-append_seam}
 use Rattle.std.proofs.lemmas.List.{set-get_or}
 use Rattle.std.proofs.lemmas.Option.{get_or_from_slice_get, slice_get_read, slice_get_within}
 use Rattle.cil_model.specs.declared.phases.Phase.{Phase}
@@ -28,10 +27,6 @@ use Rattle.simulation.specs.MachineStates.{MachineState, mutator_of}
 use Rattle.simulation.specs.Transitions.{after_request, answer_step, count_step, live_thread, start_thread, thread_for, seats_after}
 use Rattle.interleaving_core.specs.Finishing.{IsInstructed}
 use Rattle.interleaving_core.proofs.Threads.HalfSteps.{live_there, thread_is}
-
--- the elements of a vector that was changed as a slice
-pub refilled : (xs ws : List Value) (n : ℕ) → length ws ≡ n → take n (ws ++ drop (length ws) xs) ≡ ws
-refilled xs ws n e = subst (λ k. take k (ws ++ drop (length ws) xs) ≡ ws) e (take-append_seam ws (drop (length ws) xs))
 
 -- ---- what was reached
 
