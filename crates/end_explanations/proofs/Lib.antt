@@ -1,4 +1,3 @@
 pub use Rattle.event_trace.proofs as event_trace
 pub use Rattle.shared_machine.proofs as shared_machine
-pub mod CallerLaws
 pub mod ReplayLaws
