@@ -23,10 +23,6 @@ first_begins c first h = let of = opened_of c.tree c.limits first h in begins_st
 -- ---- a machine that was brought back to its beginning, or not
 
 module _ (c d first : MachineState) (h : Begins c first) where
-  pub reopened_is : (r : Result (Unit {0}) NoMemory) → OnOk r (initial_machine_state c.tree c.limits ≡ Some d) → OnOk r (d ≡ first)
-  reopened_is (Ok x) opens = begins_first c d first opens h
-  reopened_is (Err x) opens = tt
-
   pub reopened_begins : (r : Result (Unit {0}) NoMemory) → OnOk r (initial_machine_state c.tree c.limits ≡ Some d) → OnErr r (d ≡ c) → Begins d first
   reopened_begins (Ok x) opens refused = subst (λ (x : MachineState). Begins x first) (sym (begins_first c d first opens h)) (first_begins c first h)
   reopened_begins (Err x) opens refused = subst (λ (x : MachineState). Begins x first) (sym refused) h

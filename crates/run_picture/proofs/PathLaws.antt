@@ -30,12 +30,6 @@ row_before whole after numbers h = (h.0, h.1, h.2, has_before whole after (escap
 
 -- ---- a row more
 
-pub row_added : (old new : Option (List ℕ)) (spans : List Span) (y : ℕ) (bytes numbers before after : List ℕ) → rows_of spans ≡ numbers → bytes ≡ path_text y spans → Adds old new (before ++ escape bytes ++ after) → Draws old new numbers
-row_added old new spans y bytes numbers before after e same (inl lost) = inl lost
-row_added old new spans y bytes numbers before after e same (inr added) =
-    let whole = before ++ escape bytes ++ after in
-    inr (whole, (spans, y, e, (before, after, ap (λ d. before ++ escape d ++ after) same)), added)
-
 pub nothing_at_zero : (bytes : List ℕ) → (length bytes == 0) ≡ true → bytes ≡ []
 nothing_at_zero [] h = refl
 nothing_at_zero (x ∷ xs) h = absurd (grind (arith, nat_tests, h))
@@ -48,10 +42,6 @@ row_nothing (Some text) spans y bytes numbers e same nothing = inr ([], (spans, 
 abbrev pub HasPathsBefore : Option (List ℕ) → List (List ℕ) → ℕ → Type 0
 HasPathsBefore None rows n = Unit {0}
 HasPathsBefore (Some text) rows n = (row : ℕ) → row < n → HasRow text (get_or rows row [])
-
-pub no_paths : (text : Option (List ℕ)) (rows : List (List ℕ)) → HasPathsBefore text rows 0
-no_paths None rows = tt
-no_paths (Some text) rows = λ row h. absurd (omega (arith, h))
 
 nat_split : (row n : ℕ) → row < n + 1 → (row < n) ⊎ (row ≡ n)
 nat_split row n within = grind arith
@@ -66,10 +56,6 @@ paths_more (Some text) new rows n h (inr added) = subst (λ o. HasPathsBefore o 
       | inl below ↦ row_before text added.0 (get_or rows row []) (h row below)
       | inr here ↦ row_after text added.0 (get_or rows row []) (subst (λ k. HasRow added.0 (get_or rows k [])) (sym here) added.1)
     ]
-
-pub paths_all : (text : Option (List ℕ)) (rows : List (List ℕ)) (n : ℕ) → length rows ≡ n → HasPathsBefore text rows n → HasPaths text rows
-paths_all None rows n e h = tt
-paths_all (Some text) rows n e h = λ row within. h row (omega (arith, e, within))
 
 -- ---- content around content
 

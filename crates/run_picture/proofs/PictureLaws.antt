@@ -74,9 +74,6 @@ module _ (c d : MachineState) (es : List Event) (window : Window) (rows : List (
 
 -- ---- not all events are done
 
-pub nothing_done : (c : MachineState) (es : List Event) (window : Window) (out : Option (List ℕ)) → IsPictureInPart c es c window out out
-nothing_done c es window out = record { count = 0; within = omega arith; reports = []; transitions = (refl, refl); begun = inl refl }
-
 -- no more events are done
 pub stopped_before : (c d after : MachineState) (all es rest : List Event) (w window : Window) (rows : List (List ℕ)) (out : Option (List ℕ)) → all ≡ es ++ rest → SketchedSoFar c es d w rows → after ≡ d → IsPictureInPart c all after window out out
 stopped_before c d after all es rest w window rows out split h same =
