@@ -1,5 +1,5 @@
 -- What is printed stays within a bound.
-use Rattle.std.proofs.Common.{◌≡◌, ◌≤◌, ◌+◌, ◌-◌, ℕ, zero, suc, length, Option, Some, None, ap, inl, inr, arith}
+use Rattle.std.proofs.Common.{◌≡◌, ◌-◌, ℕ, length, Option, Some, None, ap, inl, inr, arith}
 use Rattle.interleaving_core.specs.simulation.MachineStates.{MachineState}
 use Rattle.shared_machine.specs.Worlds.{IsPrintedWithin}
 
@@ -14,9 +14,3 @@ same_within None o c d is within = tt
 same_within (Some bytes) o c d is within =
     let same : length d.printed ≡ length c.printed = ap length is in
     elim within [ inl few ↦ inl (omega (arith, same, few)) | inr none ↦ inr (omega (arith, same, none)) ]
-
--- where no more is printed than there is room for
-pub print_fits : (bytes : ℕ) (o c d : MachineState) (count : ℕ) → count ≤ bytes - length c.printed → length d.printed ≤ length c.printed + count → IsPrintedWithin (Some bytes) o c → IsPrintedWithin (Some bytes) o d
-print_fits bytes o c d count fits more (inl few) = inl (omega (arith, fits, more, few))
-print_fits bytes o c d zero fits more (inr none) = inr (omega (arith, more, none))
-print_fits bytes o c d (suc count) fits more (inr none) = inl (omega (arith, fits, more))
