@@ -93,9 +93,6 @@ guest_ready f eo ea = along_two (λ o a. is_monitor_storable f o a ≡ true) eo 
 pub guest_done : (f : Phase) {o p : Objects} {a : Addr} → o ≡ after_host f → a ≡ guest_copied → p ≡ stored_monitor f o a (Held 4 2) → p ≡ after_guest f
 guest_done f {p = p} eo ea = along_two (λ o a. p ≡ stored_monitor f o a (Held 4 2) → p ≡ after_guest f) eo ea (λ e. e)
 
-pub text_there : (f : Phase) {o : Objects} {a : Addr} → o ≡ after_guest f → a ≡ (literal 0) → IsSome (monitor_at o a)
-text_there f eo ea = along_two (λ o x. IsSome (monitor_at o x)) eo ea (in_all (λ g. is_some (monitor_at (after_guest g) (literal 0))) refl refl refl refl refl refl refl refl f)
-
 pub text_ready : (f : Phase) {o : Objects} {a : Addr} → o ≡ after_guest f → a ≡ literal 0 → is_monitor_storable f o a ≡ true
 text_ready f eo ea = along_two (λ o a. is_monitor_storable f o a ≡ true) eo ea (in_all (λ g. is_monitor_storable g (after_guest g) (literal 0)) refl refl refl refl refl refl refl refl f)
 
