@@ -1,8 +1,7 @@
 -- Stores to an object of two copies: the old one changes in one way and the new one in another, through the address of either.
-use Rattle.std.proofs.Common.{◌≡◌, ◌≢◌, ℕ, Bool, sym, ap, ◌∙◌}
+use Rattle.std.proofs.Common.{◌≡◌, ◌≢◌, Bool, sym, ap, ◌∙◌}
 use Rattle.std.specs.Prelude.{if◌then◌else◌, is_some, Option, Some, None}
 use Rattle.object_memory.specs.declared.addresses.Addr.{Addr}
-use Rattle.object_memory.specs.declared.values.Value.{Value}
 use Rattle.object_memory.specs.Cells.{Cell, Cells, size, cell_in, change_in}
 use Rattle.object_memory.specs.Spaces.{Spaces, AreSpaces, change_at, change_copies, change_if, other_of}
 use Rattle.object_memory.specs.Objects.{Objects}

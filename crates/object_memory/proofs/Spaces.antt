@@ -2,7 +2,7 @@
 use Rattle.std.proofs.Common.{◌≡◌, ◌≤◌, inl, inr, length, Some, arith}
 use Rattle.cil_model.specs.declared.limits.TheConstants.{MOST_WORDS}
 use Rattle.object_memory.specs.declared.addresses.Addr.{Addr}
-use Rattle.object_memory.specs.Cells.{Cell, Cells, size, cell_in}
+use Rattle.object_memory.specs.Cells.{Cell, Cells, cell_in}
 use Rattle.object_memory.specs.Spaces.{IsSpace, AreSpaces}
 use Rattle.object_memory.specs.Objects.{Objects, object_cell}
 use Rattle.object_memory.proofs.Blocks.{range_in}

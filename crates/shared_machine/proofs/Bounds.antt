@@ -1,5 +1,5 @@
 -- What is printed stays within a bound.
-use Rattle.std.proofs.Common.{◌≡◌, ◌-◌, ℕ, length, Option, Some, None, ap, inl, inr, arith}
+use Rattle.std.proofs.Common.{◌≡◌, ℕ, length, Option, Some, None, ap, inl, inr, arith}
 use Rattle.interleaving_core.specs.simulation.MachineStates.{MachineState}
 use Rattle.shared_machine.specs.Worlds.{IsPrintedWithin}
 
