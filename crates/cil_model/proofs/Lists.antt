@@ -1,5 +1,5 @@
 -- Lemmas on options and lists that std does not have.
-use Rattle.std.proofs.Common.{◌≡◌, ◌≤◌, ◌⊎◌, ℕ, zero, suc, Bool, true, false, ◌&&◌, ◌||◌, cond, IsTrue, List, [], ◌∷◌, ◌++◌, length, map, find, Option, Some, None, slice_get, slice_set, refl, inl, inr, sym, ap, ◌∙◌, subst, arith}
+use Rattle.std.proofs.Common.{◌≡◌, ◌+◌, ◌≤◌, ◌⊎◌, ℕ, zero, suc, Bool, true, false, ◌&&◌, ◌||◌, cond, IsTrue, List, [], ◌∷◌, ◌++◌, length, map, find, Option, Some, None, slice_get, slice_set, refl, inl, inr, sym, ap, ◌∙◌, subst, arith}
 use Rattle.std.specs.Prelude.{filter, flat_map, filter_map}
 use Rattle.std.specs.List.{list_any, list_all, cons_option}
 use Rattle.std.specs.Option.{option_map_or}
@@ -31,6 +31,12 @@ pub get_before : {X : Type 0} (xs more : List X) (n : ℕ) (x : X) → slice_get
 get_before [] more n x e = none_is_some x e
 get_before (y ∷ ys) more zero x e = e
 get_before (y ∷ ys) more (suc n) x e = get_before ys more n x e
+
+-- and an item of the list that follows is at its index after this one
+pub get_after : {X : Type 0} (xs more : List X) (n k : ℕ) → n ≡ length xs + k → slice_get (xs ++ more) n ≡ slice_get more k
+get_after [] more n k e = ap (slice_get more) (omega (arith, e))
+get_after (x ∷ xs) more zero k e = absurd (omega (arith, e))
+get_after (x ∷ xs) more (suc n) k e = get_after xs more n k (omega (arith, e))
 
 -- the last one is at the end
 pub last_is_there : {X : Type 0} (xs : List X) (y : X) → slice_get (xs ++ y ∷ []) (length xs) ≡ Some y

@@ -20,7 +20,7 @@ use Rattle.cil_model.proofs.SameLaws.{same_text_itself, same_class_equal}
 use Rattle.cil_model.proofs.Legal.{no_cycle}
 use Rattle.cil_model.proofs.ChainLaws.{chain_ends}
 use Rattle.name_tables.proofs.NumberLaws.{none_is_some}
-use Rattle.cil_model.proofs.Lists.{once_kept, passes_not}
+use Rattle.cil_model.proofs.Lists.{get_after, once_kept, passes_not}
 use Rattle.class_layout.proofs.SlotLaws.{position_past, same_name, of_flag, key_in, keyed, own_alike, none_along, above, inherited, own_last, once_declared, none_above}
 
 -- ---- lists
@@ -47,14 +47,6 @@ of_either (z ∷ zs) ys (suc i) x h = by_rest (of_either zs ys i x h)
     by_rest : (slice_get zs i ≡ Some x) ⊎ ((p : ℕ) × (i ≡ length zs + p) × (slice_get ys p ≡ Some x)) → (slice_get zs i ≡ Some x) ⊎ ((p : ℕ) × (suc i ≡ suc (length zs) + p) × (slice_get ys p ≡ Some x))
     by_rest (inl there) = inl there
     by_rest (inr (p, e, there)) = inr (p, omega (arith, e), there)
-
--- the item at an index of the second list is at that index after the first list
-following : {X : Type 0} (xs ys : List X) (p index : ℕ) → index ≡ length xs + p → slice_get (xs ++ ys) index ≡ slice_get ys p
-following [] ys p index e =
-    let same : index ≡ p = omega (arith, e) in
-    ap (slice_get ys) same
-following (x ∷ xs) ys p zero e = absurd (omega (arith, e))
-following (x ∷ xs) ys p (suc index) e = following xs ys p index (omega (arith, e))
 
 -- ---- fields that one class declares
 
@@ -159,7 +151,7 @@ module _ (tree : Tree) (legal : IsLegal tree) where
       let both : Some n ≡ Some (length (hidden_slots tree c) + i) = sym is ∙ placed_in c i e at in
       let index : n ≡ length (hidden_slots tree c) + i = cc in
       let types : List (Option DeclaredType) = map (λ (f : FieldKey × DeclaredType). Some f.1) (instance_fields tree c) in
-      following (hidden_slots tree c) types i n index ∙ slice_get-map (λ (f : FieldKey × DeclaredType). Some f.1) (instance_fields tree c) i ∙
+      get_after (hidden_slots tree c) types n i index ∙ slice_get-map (λ (f : FieldKey × DeclaredType). Some f.1) (instance_fields tree c) i ∙
       ap (option_map (λ (f : FieldKey × DeclaredType). Some f.1)) at
 
   -- a reference exactly where the field does

@@ -14,6 +14,7 @@ use Rattle.cil_model.specs.Same.{same_flag}
 use Rattle.cil_model.specs.Declarations.{Declaration}
 use Rattle.cil_model.specs.Chains.{is_static, is_virtual, is_new_slot_method, is_interface}
 use Rattle.cil_model.specs.Legality.{IsLegal}
+use Rattle.cil_model.proofs.Lists.{get_before}
 use Rattle.name_tables.specs.Numbers.{class_number, chain_numbers, declarations, method_found}
 use Rattle.name_tables.specs.Sameness.{MethodIdentity, identity_of, same_identity, same_called, called_of}
 use Rattle.name_tables.specs.SamenessLaws.{same_identity_equal, same_identity_itself}
@@ -121,11 +122,6 @@ found_there {X} test s (y ∷ ys) (suc j) x h e = by_test (test y) refl (found_t
 abbrev Occurs : {X : Type 0} → List X → X → Type 0
 Occurs xs x = (j : ℕ) × (slice_get xs j ≡ Some x)
 
-occurs_before : {X : Type 0} (xs ys : List X) (j : ℕ) (x : X) → slice_get xs j ≡ Some x → slice_get (xs ++ ys) j ≡ Some x
-occurs_before [] ys j x h = absurd (none-some x h)
-occurs_before (z ∷ zs) ys zero x h = h
-occurs_before (z ∷ zs) ys (suc j) x h = occurs_before zs ys j x h
-
 occurs_after : {X : Type 0} (xs ys : List X) (x : X) → Occurs ys x → Occurs (xs ++ ys) x
 occurs_after [] ys x h = h
 occurs_after (z ∷ zs) ys x h =
@@ -136,7 +132,7 @@ occurs_in_rows : {R X : Type 0} (row : R → List X) (rs : List R) (n : ℕ) (r 
 occurs_in_rows row [] n r p x h at = absurd (none-some r h)
 occurs_in_rows row (q ∷ qs) zero r p x h at =
     let same : q ≡ r = cc in
-    (p, occurs_before (row q) (flat_map row qs) p x (ap (λ z. slice_get (row z) p) same ∙ at))
+    (p, get_before (row q) (flat_map row qs) p x (ap (λ z. slice_get (row z) p) same ∙ at))
 occurs_in_rows row (q ∷ qs) (suc n) r p x h at = occurs_after (row q) (flat_map row qs) x (occurs_in_rows row qs n r p x h at)
 
 module _ (tree : Tree) (k : MethodIdentity) (i : ℕ) (has_id : identity_number tree k ≡ i) where

@@ -4,19 +4,14 @@ use Rattle.std.specs.Prelude.{option_and_then, option_map, slice_get}
 use Rattle.std.proofs.lemmas.List.{at_drop_more}
 use Rattle.cil_model.specs.declared.trees.Member.{Member}
 use Rattle.cil_model.specs.declared.trees.Member.TheVariants.{Field as FieldMember, Method as MethodMember}
+use Rattle.cil_model.proofs.Lists.{get_after}
 use Rattle.event_trace.proofs.Names.{slice_get-map, length-append, ClassName, Tree, Class, Method, Declaration, built_ins, built_in_entry, as_method, source_name, source_entry, method_at, built_in_method, method_indices, source_method, MethodPositions, ArePositionsOf, FIRST_OF_SOURCE}
 
--- ---- one list after another
-
+-- an index in the first of two lists
 in_first : {X : Type 0} (xs ys : List X) (n : ℕ) → n < length xs → slice_get (xs ++ ys) n ≡ slice_get xs n
 in_first [] ys n below = absurd (omega (arith, below))
 in_first (x ∷ xs) ys zero below = refl
 in_first (x ∷ xs) ys (suc n) below = in_first xs ys n (omega (arith, below))
-
-in_second : {X : Type 0} (xs ys : List X) (n k : ℕ) → n ≡ length xs + k → slice_get (xs ++ ys) n ≡ slice_get ys k
-in_second [] ys n k e = let same : n ≡ k = omega (arith, e) in ap (slice_get ys) same
-in_second (x ∷ xs) ys zero k e = absurd (omega (arith, e))
-in_second (x ∷ xs) ys (suc n) k e = in_second xs ys n k (omega (arith, e))
 
 -- ---- the methods among members
 
@@ -31,7 +26,7 @@ is_listed before (FieldMember f ∷ members) n e p =
     ∙ is_listed (before ++ FieldMember f ∷ []) members (n + 1) next p
 is_listed before (MethodMember m ∷ members) n e zero =
     let here : n ≡ length before + 0 = omega (arith, e) in
-    ap (option_and_then as_method) (in_second before (MethodMember m ∷ members) n 0 here)
+    ap (option_and_then as_method) (get_after before (MethodMember m ∷ members) n 0 here)
 is_listed before (MethodMember m ∷ members) n e (suc p) =
     let one : length (before ++ MethodMember m ∷ []) ≡ length before + 1 = length-append before (MethodMember m ∷ []) in
     let next : n + 1 ≡ length (before ++ MethodMember m ∷ []) = omega (arith, e, one) in
@@ -90,4 +85,4 @@ module _ (tree : Tree) (p : MethodPositions) (is : ArePositionsOf tree p) where
       ∙ ap (λ rows. by_index index (slice_get tree.classes k) (slice_get rows k)) is.source
       ∙ ap (by_index index (slice_get tree.classes k)) (slice_get-map indices tree.classes k)
       ∙ of_class index (slice_get tree.classes k)
-      ∙ sym (ap (option_and_then (of index)) (in_second built_ins (map source_entry tree.classes) class k e ∙ slice_get-map source_entry tree.classes k))
+      ∙ sym (ap (option_and_then (of index)) (get_after built_ins (map source_entry tree.classes) class k e ∙ slice_get-map source_entry tree.classes k))

@@ -14,7 +14,7 @@ use Rattle.name_tables.specs.Numbers.{declarations, method_at}
 use Rattle.name_tables.proofs.NumberLaws.{none_is_some}
 use Rattle.resolved_code.specs.Resolved.{AllAlike}
 use Rattle.loaded_program.specs.AllMethods.{owned_methods, all_methods, flat_number, first_numbers, id_among, method_id}
-use Rattle.cil_model.proofs.Lists.{get_before}
+use Rattle.cil_model.proofs.Lists.{get_after, get_before}
 
 -- ---- lists whose items stand in a relation
 
@@ -32,13 +32,6 @@ pub alike_more : {X Y : Type 0} (R : X → Y → Type 0) (xs : List X) (ys : Lis
 alike_more {X} {Y} R xs ys i x y before at r =
     let P : List X → Type 0 = λ zs. AllAlike R zs (ys ++ y ∷ []) in
     subst P (sym (one_more xs i x at)) (alike_after R (take i xs) ys (x ∷ []) (y ∷ []) before (r, tt))
-
-after_from : {X : Type 0} (xs ys : List X) (n index : ℕ) → index ≡ length xs + n → slice_get (xs ++ ys) index ≡ slice_get ys n
-after_from [] ys n index e =
-    let same : index ≡ n = omega arith in
-    ap (slice_get ys) same
-after_from (x ∷ xs) ys n zero e = absurd (omega arith)
-after_from (x ∷ xs) ys n (suc index) e = after_from xs ys n index (omega arith)
 
 -- ---- methods of one class
 
@@ -78,7 +71,7 @@ flat_found next (e ∷ es) (suc n) p found h =
     let counted : length e.1.methods + further.0 ≡ length (owned_methods e ++ flat_map owned_methods (take n es)) = omega arith in
     let first : (next + length e.1.methods) + further.0 ≡ next + (length e.1.methods + further.0) = omega arith in
     let index : (length e.1.methods + further.0) + p ≡ length (owned_methods e) + (further.0 + p) = omega arith in
-    (length e.1.methods + further.0, counted, further.2 ∙ ap Some first, after_from (owned_methods e) (flat_map owned_methods es) (further.0 + p) ((length e.1.methods + further.0) + p) index ∙ further.3)
+    (length e.1.methods + further.0, counted, further.2 ∙ ap Some first, get_after (owned_methods e) (flat_map owned_methods es) ((length e.1.methods + further.0) + p) (further.0 + p) index ∙ further.3)
 
 -- an index among the methods of the first of some classes, and one after them
 id_in_first : (class : ℕ) (e : ClassName × Declaration) (es : List (ClassName × Declaration)) (index : ℕ) → index < length e.1.methods → id_among class (e ∷ es) index ≡ record { class = class; index = index }

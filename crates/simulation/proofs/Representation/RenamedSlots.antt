@@ -19,7 +19,7 @@ use Rattle.simulation.specs.Agreement.{Agree}
 use Rattle.simulation.specs.Refines.{Names, IsValue, int32, int64, native, null_reference, reference, IsWord, IsInstanceCell, IsOfContents, hidden_words, thread_word}
 use Rattle.simulation.proofs.ListLaws.AgreeingLists.{agree_get, agree_length}
 use Rattle.simulation.proofs.Memory.ReferenceSlots.{kind_fits, kind_of_state, element_says, hidden_says, is_reference_kind, slot_says}
-use Rattle.interpreter.proofs.cil_model.Lists.{get_before, none_is_some}
+use Rattle.interpreter.proofs.cil_model.Lists.{get_after, get_before, none_is_some}
 use Rattle.interpreter.proofs.cil_model.SameLaws.{never}
 
 -- ---- lists
@@ -31,11 +31,6 @@ agree_of_indices R (x ∷ xs) (y ∷ ys) same h =
     let first = h 0 y refl in
     (subst (λ z. R z y) (sym (same_Some x first.0 first.1)) first.2, agree_of_indices R xs ys (omega (arith, same)) (λ n z is. h (suc n) z is))
 agree_of_indices R _ _ same h = absurd (omega (arith, same))
-
--- an item after the first of two lists
-get_after : {X : Type 0} (xs ys : List X) (n : ℕ) → slice_get (xs ++ ys) (length xs + n) ≡ slice_get ys n
-get_after [] ys n = let index : 0 + n ≡ n = omega arith in ap (slice_get ys) index
-get_after (x ∷ xs) ys n = let index : length (x ∷ xs) + n ≡ suc (length xs + n) = omega arith in ap (slice_get (x ∷ (xs ++ ys))) index ∙ get_after xs ys n
 
 -- a list that begins as one of two parts, with the number of elements of both
 split_alike : (xs ys zs : List ℕ) → length zs ≡ length (xs ++ ys) → ((n w : ℕ) → slice_get xs n ≡ Some w → slice_get zs n ≡ Some w) → (rest : List ℕ) × (zs ≡ xs ++ rest) × (length rest ≡ length ys)
@@ -120,10 +115,10 @@ module _ (tree : Tree) (legal : IsLegal tree) (s : State) (name names : Names) w
     field_shown : HaveFieldTypes tree s fields (instance_fields tree c) → (n : ℕ) (f : FieldKey × StateValue) → slice_get fields n ≡ Some f → (w : ℕ) × (slice_get parts.0 n ≡ Some w) × IsWord names w f.1
     field_shown typed n f is =
         let word = agree_get (λ w (x : FieldKey × StateValue). IsWord name w x.1) h.words fields h.values n f is in
-        let there = ap (λ l. slice_get l (length hidden + n)) h.slots_are ∙ get_after hidden h.words n ∙ word.1 in
+        let there = ap (λ l. slice_get l (length hidden + n)) h.slots_are ∙ get_after hidden h.words (length hidden + n) n refl ∙ word.1 in
         let says = ap (λ k. holds_reference tree (Instance class) (k + n)) hidden_count ∙ slot_says tree legal s c class h.class_is fields typed n f is in
         let found = slot_shown (Instance class) slots shown alike (length hidden + n) word.0 f.1 says there word.2 in
-        (found.0, sym (get_after hidden parts.0 n) ∙ sym (ap (λ l. slice_get l (length hidden + n)) parts.1) ∙ found.1, found.2)
+        (found.0, sym (get_after hidden parts.0 (length hidden + n) n refl) ∙ sym (ap (λ l. slice_get l (length hidden + n)) parts.1) ∙ found.1, found.2)
 
     instance_shown : HaveFieldTypes tree s fields (instance_fields tree c) → IsInstanceCell tree names class shown c fields thread
     instance_shown typed = record {
