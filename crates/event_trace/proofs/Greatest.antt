@@ -1,6 +1,7 @@
 -- More rounds than there are threads leave the greatest set of threads that wait for one another.
 use Rattle.std.proofs.Common.{◌≡◌, ◌≤◌, ◌<◌, ◌+◌, ◌⊎◌, ◌&&◌, ◌||◌, not, ℕ, zero, suc, Bool, true, false, List, length, replicate, Option, Some, None, option_map, slice_get, unwrap_or, refl, inl, inr, sym, ap, ◌∙◌, subst, arith}
 use Rattle.std.specs.Option.{option_map_or}
+use Rattle.std.proofs.lemmas.Bool.{not-true, or_cases}
 use Rattle.cil_model.proofs.Lists.{none_is_some}
 use Rattle.interleaving_core.specs.simulation.reference_machine.Blocking.{HasEnded, HoldersWereStarted, IsBlockedSet, IsHeldUp, IsIn}
 use Rattle.interleaving_core.specs.simulation.Counts.{IsCountedMonitor}
@@ -42,21 +43,13 @@ module _ (c : MachineState) (s : State) (r : Represents c s) where
   -- ---- a set that a round leaves as it is
 
   module _ (set : List Bool) where
-    either_true : (a b : Bool) → (a || b) ≡ true → (a ≡ true) ⊎ (b ≡ true)
-    either_true true b h = inl refl
-    either_true false b h = inr h
-
-    not_true : (b : Bool) → not b ≡ true → b ≡ false
-    not_true false h = refl
-    not_true true h = not_both false refl h
-
     held_truly : (w : Wait) (v : StateWait) → IsWaitAlike w v → IsTrueWait s v → is_held_up c set w ≡ true → IsHeldUp s set v
-    held_truly (Monitor class owner) (ForMonitor n other) same (count, held) h = by_either (either_true (is_in set owner) (not (is_live_at c.threads owner)) h)
+    held_truly (Monitor class owner) (ForMonitor n other) same (count, held) h = by_either (or_cases (is_in set owner) (not (is_live_at c.threads owner)) h)
       where
         by_either : (is_in set owner ≡ true) ⊎ (not (is_live_at c.threads owner) ≡ true) → IsIn set other ⊎ HasEnded s other
         by_either (inl inside) = inl (subst (IsIn set) same (is_in_truly set owner inside))
         by_either (inr over) =
-            inr (ended other (holders_started n other count held) (subst (λ k. is_live_at c.threads k ≡ false) same (not_true (is_live_at c.threads owner) over)))
+            inr (ended other (holders_started n other count held) (subst (λ k. is_live_at c.threads k ≡ false) same (not-true (is_live_at c.threads owner) over)))
     held_truly (Join thread) (ForEnd other) same lives h = subst (IsIn set) same (is_in_truly set thread h)
     held_truly (Monitor class owner) (ForEnd other) same truly h = elim same [ ]
     held_truly (Join thread) (ForMonitor n other) same truly h = elim same [ ]
