@@ -1,12 +1,12 @@
 -- A class is below itself where its number is in the chain of its base.
-use Rattle.std.proofs.Common.{◌≡◌, ◌==◌, ℕ, zero, suc, Bool, true, false, ◌||◌, List, [], ◌∷◌, Option, Some, None, option_and_then, slice_get, refl, sym, ap, ◌∙◌}
+use Rattle.std.proofs.Common.{◌≡◌, ◌==◌, ℕ, true, false, Option, Some, None, option_and_then, slice_get, refl, sym, ap, ◌∙◌}
 use Rattle.std.specs.List.{list_any}
 use Rattle.cil_model.specs.declared.types.ClassName.{ClassName}
 use Rattle.cil_model.specs.declared.trees.Tree.{Tree}
 use Rattle.cil_model.specs.Same.{same_class}
 use Rattle.cil_model.specs.declared.trees.Class.{Class}
 use Rattle.cil_model.specs.Declarations.{Declaration, source_name}
-use Rattle.std.proofs.lemmas.Option.{same_Some, none-some}
+use Rattle.std.proofs.lemmas.Map.Keys.{any_passes_from_place}
 use Rattle.inheritance.specs.Lines.{base_in, Ends}
 use Rattle.inheritance.proofs.LineLaws.{line_of_none, not_among}
 use Rattle.name_tables.specs.Members.{base_numbers}
@@ -17,16 +17,6 @@ use Rattle.cil_model.specs.Legality.{is_own_base, has_cycle}
 use Rattle.name_tables.specs.Numbers.{class_number, chain_numbers}
 use Rattle.name_tables.proofs.NumberLaws.{base_at}
 use Rattle.resolved_code.proofs.Numbers.Classes.{FoundAt, found_at, not_declared, among_numbers}
-
--- an item that passes
-pub passes_at : {X : Type 0} (p : X → Bool) (xs : List X) (i : ℕ) (x : X) → slice_get xs i ≡ Some x → p x ≡ true → list_any p xs ≡ true
-passes_at p [] i x e h = absurd (none-some x e)
-passes_at p (y ∷ ys) zero x e h = ap (λ b. b || list_any p ys) (ap p (same_Some y x e) ∙ h)
-passes_at p (y ∷ ys) (suc i) x e h = ap (λ b. p y || b) (passes_at p ys i x e h) ∙ or_true (p y)
-  where
-    or_true : (b : Bool) → b || true ≡ true
-    or_true true = refl
-    or_true false = refl
 
 module _ (tree : Tree) where
   pub base_has_id : (c : ClassName) (n : ℕ) → class_number tree c ≡ Some n → base_of tree c ≡ base_at tree n
@@ -65,4 +55,4 @@ module _ (tree : Tree) where
   not_own c n e ends = own_line c n e ∙ not_among (base_numbers tree) n (longest_chain tree) (longest_chain tree) ends
 
   pub some_round : (i : ℕ) (c : Class) → slice_get tree.classes i ≡ Some c → is_own_base tree (source_name c) ≡ true → true ≡ has_cycle tree
-  some_round i c e h = sym (passes_at (λ (k : Class). is_own_base tree (source_name k)) tree.classes i c e h)
+  some_round i c e h = sym (any_passes_from_place (λ (k : Class). is_own_base tree (source_name k)) tree.classes i c e h)

@@ -20,7 +20,8 @@ use Rattle.name_tables.specs.Numbers.{declarations, class_number, nearest_number
 use Rattle.name_tables.specs.Sameness.{MethodIdentity, same_identity, identity_of}
 use Rattle.name_tables.specs.SamenessLaws.{same_identity_equal}
 use Rattle.name_tables.proofs.FirstIndices.{is_some-position_from}
-use Rattle.name_tables.proofs.NumberLaws.{found_none, found_some, found_passes, found_at_index}
+use Rattle.cil_model.proofs.Lists.{find_passes}
+use Rattle.name_tables.proofs.NumberLaws.{found_none, found_some, found_at_index}
 use Rattle.resolved_code.proofs.Numbers.Classes.{FoundAt, found_at}
 use Rattle.resolved_code.specs.VirtualSlots.{is_virtual_found, is_override, top_open, hidden_open, concrete_by_id}
 use Rattle.resolved_code.proofs.ListLaws.Tests.{and_false}
@@ -225,7 +226,7 @@ module _ (tree : Tree) (k : MethodIdentity) where
       by_found None h = clear
       by_found (Some m) h =
           let found : find is_it e.1.methods ≡ Some m = sym (ap (option_and_then (λ (x : ClassName × Declaration). find is_it x.1.methods)) entry) ∙ h in
-          let own : k ≡ identity_of m = same_identity_equal k (identity_of m) (found_passes is_it e.1.methods m found) in
+          let own : k ≡ identity_of m = same_identity_equal k (identity_of m) (find_passes is_it e.1.methods m found) in
           let fails : hides_one tree (line_of tree (base_in (base_numbers tree) class)) m ≡ false = found_fails is_it (hides_one tree (line_of tree (base_in (base_numbers tree) class))) e.1.methods m found none in
           or_from _ _ clear (ap (λ x. not (is_override m) && top_open tree x (line_of tree (base_in (base_numbers tree) class))) own ∙ fails)
 

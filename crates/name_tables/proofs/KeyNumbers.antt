@@ -1,18 +1,19 @@
 -- Keys are the same where their numbers are.
-use Rattle.std.proofs.Common.{◌≡◌, ◌≢◌, ◌<◌, ◌+◌, ◌⊎◌, inl, inr, ℕ, zero, suc, Bool, true, false, cond, ◌||◌, ◌==◌, List, [], ◌∷◌, ◌++◌, length, map, flat_map, Option, Some, None, option_map, is_some, slice_get, slice_index_or, unwrap_or, refl, sym, ap, subst, ◌∙◌, arith}
+use Rattle.std.proofs.Common.{◌≡◌, ◌≢◌, ◌<◌, ◌+◌, ◌⊎◌, inl, inr, ℕ, zero, suc, Bool, true, false, cond, ◌==◌, List, [], ◌∷◌, ◌++◌, length, map, flat_map, Option, Some, None, option_map, is_some, slice_get, slice_index_or, unwrap_or, refl, sym, ap, subst, ◌∙◌, arith}
 use Rattle.std.specs.Prelude.{find}
 use Rattle.std.specs.List.{position_from, list_any, list_all}
 use Rattle.std.specs.Cmp.{IsEquivalence}
-use Rattle.std.proofs.lemmas.Bool.{and_from, eq-eqb}
+use Rattle.std.proofs.lemmas.Bool.{and_from, eq-eqb, or_left, or_right}
 use Rattle.std.proofs.lemmas.Bool.Decides.{eqb_tells}
 use Rattle.std.proofs.lemmas.List.{length-map}
 use Rattle.std.proofs.lemmas.List.Folds.{list_any-append}
 use Rattle.std.proofs.lemmas.Option.{none-some, slice_get_within}
 use Rattle.cil_model.proofs.SameLaws.{both_first, both_second}
+use Rattle.cil_model.proofs.Lists.{find_passes}
 use Rattle.inheritance.specs.Lines.{index_in}
 use Rattle.name_tables.specs.Inherited.{number_in, HaveIds}
 use Rattle.name_tables.proofs.FirstIndices.{is_some-position_from, position_from-congr}
-use Rattle.name_tables.proofs.NumberLaws.{none_is_some, position_from-map, found_at_index, found_passes}
+use Rattle.name_tables.proofs.NumberLaws.{none_is_some, position_from-map, found_at_index}
 
 lost : true ≡ false → ⊥
 lost e = cc
@@ -22,15 +23,7 @@ found_item {X} test xs i e = by_find (find test xs) refl (sym (ap (option_map (s
   where
     by_find : (o : Option X) → find test xs ≡ o → Some (slice_get xs i) ≡ option_map Some o → (y : X) × (slice_get xs i ≡ Some y) × (test y ≡ true)
     by_find None k h = absurd (none_is_some (slice_get xs i) (sym h))
-    by_find (Some y) k h = (y, cc h, found_passes test xs y k)
-
-or_right : (a b : Bool) → b ≡ true → (a || b) ≡ true
-or_right true b h = refl
-or_right false b h = h
-
-or_left : (a b : Bool) → a ≡ true → (a || b) ≡ true
-or_left true b h = refl
-or_left false b h = absurd (lost (sym h))
+    by_find (Some y) k h = (y, cc h, find_passes test xs y k)
 
 all_wider : {X : Type 0} (test other : X → Bool) → ((x : X) → test x ≡ true → other x ≡ true) → (xs : List X) → list_all test xs ≡ true → list_all other xs ≡ true
 all_wider test other wider [] h = refl

@@ -16,6 +16,7 @@ use Rattle.name_tables.specs.Sameness.{MethodIdentity, same_field, same_called, 
 use Rattle.name_tables.specs.Numbers.{declarations, class_number, source_entry, nearest_number, member_at, index_in, field_at, method_at, field_number, method_number}
 use Rattle.name_tables.proofs.Lists.{option_map_of_map}
 use Rattle.cil_model.proofs.SameLaws.{class_equivalence, same_class_equal}
+use Rattle.cil_model.proofs.Lists.{find_passes}
 use Rattle.name_tables.specs.SamenessLaws.{field_equivalence, called_equivalence}
 
 pub none_is_some : {X : Type 0} (x : X) → None ≡ Some x → ⊥
@@ -77,18 +78,6 @@ pub position_from-map : {X Y : Type 0} (f : X → Y) (test : Y → Bool) (i : �
 position_from-map f test i [] = refl
 position_from-map f test i (x ∷ xs) = ap (λ o. cond (test (f x)) (Some i) o) (position_from-map f test (i + 1) xs)
 
--- what passes is found to pass
-pub found_passes : {X : Type 0} (test : X → Bool) (xs : List X) (x : X) → find test xs ≡ Some x → IsTrue (test x)
-found_passes test [] x e = absurd (lost e)
-  where
-    lost : None ≡ Some x → ⊥
-    lost h = cc
-found_passes {X} test (y ∷ ys) x e = by_test (found_passes test ys x) (test y) refl e
-  where
-    by_test : (find test ys ≡ Some x → IsTrue (test x)) → (b : Bool) → test y ≡ b → cond b (Some y) (find test ys) ≡ Some x → IsTrue (test x)
-    by_test further true h k = let s : y ≡ x = cc in subst (λ (z : X). IsTrue (test z)) s h
-    by_test further false h k = further k
-
 module _ (tree : Tree) where
   abbrev entry_named : ClassName → ClassName × Declaration → Bool
   entry_named c e = same_class c e.0
@@ -134,7 +123,7 @@ module _ (tree : Tree) where
       by_index None None p q e = sym (find_declared c) ∙ ap (option_map (λ (e : ClassName × Declaration). e.1)) q
       by_index (Some n) (Some d) p q e =
           let at : slice_get (declarations tree) n ≡ Some d = cc in
-          (d.1, sym (find_declared c) ∙ ap (option_map (λ (e : ClassName × Declaration). e.1)) q, at ∙ ap Some (named_itself d (found_passes (entry_named c) (declarations tree) d q)))
+          (d.1, sym (find_declared c) ∙ ap (option_map (λ (e : ClassName × Declaration). e.1)) q, at ∙ ap Some (named_itself d (find_passes (entry_named c) (declarations tree) d q)))
       by_index None (Some d) p q e = absurd (lost e)
         where
           lost : None ≡ Some (Some d) → ⊥
