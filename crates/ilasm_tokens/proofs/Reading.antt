@@ -5,7 +5,7 @@ use Rattle.std.specs.List.{prefix_len, list_all}
 use Rattle.std.specs.Int.{w64}
 use Rattle.std.proofs.Math.Numerals.{one-add}
 use Rattle.std.proofs.lemmas.List.{take_at, drop_at}
-use Rattle.std.proofs.lemmas.Bool.{eqb-true, leb-true, le-leb}
+use Rattle.std.proofs.lemmas.Bool.{eqb-true, leb-true, le-leb, and_from, and_parts, not-true, or_left}
 use Rattle.cil_model.specs.declared.tokens.Symbol as symbols
 use Rattle.cil_model.specs.declared.tokens.Symbol.TheVariants.{OpenBrace, CloseBrace, OpenParenthesis, CloseParenthesis, OpenBracket, CloseBracket, Comma, Colon as OneColon, DoubleColon}
 use Rattle.cil_model.specs.declared.tokens.Token.{Token}
@@ -22,17 +22,9 @@ use Rattle.ilasm_tokens.specs.Answers.{IsTokenAnswer}
 use Rattle.ilasm_tokens.specs.Vocabulary.{use_of}
 use Rattle.ilasm_tokens.specs.Lexing.{kind_of, run_at, word_token, limit, is_empty, integer_of, integer_token, quoted_from, quoted_token, colon_token, token_by, lexeme_at, spaced_lexeme_at, not_empty, tokens_at}
 use Rattle.ilasm_tokens.proofs.Many.{Complete, many_complete}
-use Rattle.ilasm_tokens.proofs.Reserved.{both, has_use_is_reserved, begins_word, reserved_begins}
+use Rattle.ilasm_tokens.proofs.Reserved.{has_use_is_reserved, begins_word, reserved_begins}
 
 -- ---- tests
-
-both_from : (a b : Bool) → a ≡ true → b ≡ true → (a && b) ≡ true
-both_from true b e f = f
-both_from false b e f = e
-
-not_true : (a : Bool) → not a ≡ true → a ≡ false
-not_true true e = absurd cc
-not_true false e = refl
 
 not_from : (a : Bool) → a ≡ false → not a ≡ true
 not_from true e = sym e
@@ -52,7 +44,7 @@ all_taken : (bs : List ℕ) → list_all is_word_byte (take (prefix_len is_word_
 all_taken [] = refl
 all_taken (b ∷ bs) =
     elim (is_word_byte b) as (λ v. is_word_byte b ≡ v → list_all is_word_byte (take (cond v (1 + prefix_len is_word_byte bs) 0) (b ∷ bs)) ≡ true) [
-      | true ↦ λ e. rw one-add (both_from (is_word_byte b) _ e (all_taken bs))
+      | true ↦ λ e. rw one-add (and_from (is_word_byte b) _ e (all_taken bs))
       | false ↦ λ e. refl
     ] refl
 
@@ -70,9 +62,9 @@ run_sound bs = yields_some (sym (take-append-drop (prefix_len is_word_byte bs) b
 
 run_length : (w rest : List ℕ) → list_all is_word_byte w ≡ true → stops is_word_byte rest ≡ true → prefix_len is_word_byte (w ++ rest) ≡ length w
 run_length [] [] a e = refl
-run_length [] (b ∷ bs) a e = rw (not_true (is_word_byte b) e) refl
+run_length [] (b ∷ bs) a e = rw (not-true (is_word_byte b) e) refl
 run_length (b ∷ w) rest a e =
-    let parts = both (is_word_byte b) (list_all is_word_byte w) a in
+    let parts = and_parts (is_word_byte b) (list_all is_word_byte w) a in
     let here : is_word_byte b ≡ true = parts.0 in
     rw (here, run_length w rest parts.1 e) (one-add (length w))
 
@@ -96,7 +88,7 @@ segments_some (c ∷ w) e = omega arith
 name_from : (w : List ℕ) → is_some (use_of w) ≡ false → are_segments true w ≡ true → is_name w ≡ true
 name_from w n s =
     let none : is_reserved w ≡ false = sym (has_use_is_reserved w) ∙ n in
-    both_from (are_segments true w) (not (is_reserved w)) s (not_from (is_reserved w) none)
+    and_from (are_segments true w) (not (is_reserved w)) s (not_from (is_reserved w) none)
 
 -- ---- integers
 
@@ -144,9 +136,9 @@ value_complete m ds z s d e f =
 
 plain_is : (b : ℕ) → is_plain b ≡ true → ((b == 34) ≡ false) × ((b == 92) ≡ false)
 plain_is b e =
-    let whole = both (nat_le 32 b && nat_le b 126 && not (b == 34)) (not (b == 92)) e in
-    let front = both (nat_le 32 b && nat_le b 126) (not (b == 34)) whole.0 in
-    (not_true _ front.1, not_true _ whole.1)
+    let whole = and_parts (nat_le 32 b && nat_le b 126 && not (b == 34)) (not (b == 92)) e in
+    let front = and_parts (nat_le 32 b && nat_le b 126) (not (b == 34)) whole.0 in
+    (not-true _ front.1, not-true _ whole.1)
 
 yields_push : {Q : List ℕ × List ℕ → Type 0} {P : List ℕ × List ℕ → Type 0} (b : ℕ) {m : Option (List ℕ × List ℕ)} → Yields m P → ((y : List ℕ × List ℕ) → P y → Q (b ∷ y.0, y.1)) → Yields (with_front (b ∷ []) m) Q
 unfolding with_front
@@ -272,28 +264,24 @@ digit_kind c e = rw e refl
 letter_no_digit : (c : ℕ) → begins_segment c ≡ true → is_digit c ≡ false
 letter_no_digit c e = grind arith
 
-either_first : (a b : Bool) → a ≡ true → (a || b) ≡ true
-either_first true b e = refl
-either_first false b e = absurd cc
-
 segments_begin : (w : List ℕ) → are_segments true w ≡ true → begins_word w ≡ true
 segments_begin [] e = absurd cc
 segments_begin (c ∷ w) e =
-    let parts = both (begins_segment c) (are_segments false w) e in
-    both_from (not (is_digit c)) (begins_segment c || (c == 46)) (not_from (is_digit c) (letter_no_digit c parts.0)) (either_first (begins_segment c) (c == 46) parts.0)
+    let parts = and_parts (begins_segment c) (are_segments false w) e in
+    and_from (not (is_digit c)) (begins_segment c || (c == 46)) (not_from (is_digit c) (letter_no_digit c parts.0)) (or_left (begins_segment c) (c == 46) parts.0)
 
 word_complete : (w : List ℕ) (bs rest : List ℕ) (y : Option (Token × List ℕ)) → run w bs rest → begins_word w ≡ true → word_token bs ≡ y → lexeme_at bs ≡ y
 unfolding token_by
 word_complete [] bs rest y p begins g = absurd cc
 word_complete (b ∷ w) bs rest y p begins g =
-    let parts = both (not (is_digit b)) (begins_segment b || (b == 46)) begins in
-    token_from Word b y (word_kind b (not_true (is_digit b) parts.0) parts.1) p.0 (rw (← p.0) g)
+    let parts = and_parts (not (is_digit b)) (begins_segment b || (b == 46)) begins in
+    token_from Word b y (word_kind b (not-true (is_digit b) parts.0) parts.1) p.0 (rw (← p.0) g)
 
 digits_complete : (ds : List ℕ) (bs rest : List ℕ) (y : Option (Token × List ℕ)) → run ds bs rest → ds ≢ [] → list_all is_digit ds ≡ true → integer_token false bs ≡ y → lexeme_at bs ≡ y
 unfolding token_by
 digits_complete [] bs rest y p some digits g = absurd (some refl)
 digits_complete (b ∷ ds) bs rest y p some digits g =
-    token_from Digit b y (digit_kind b (both (is_digit b) (list_all is_digit ds) digits).0) p.0 (rw (← p.0) g)
+    token_from Digit b y (digit_kind b (and_parts (is_digit b) (list_all is_digit ds) digits).0) p.0 (rw (← p.0) g)
 
 integer_complete : (m : Bool) (z : ℤ) (ds bs rest : List ℕ) → ds ≢ [] → list_all is_digit ds ≡ true → z ≡ with_sign m (value_from 0 ds) → FitsSigned w64 z → run ds bs rest → integer_token m bs ≡ Some (Integer z, rest)
 unfolding integer_token
@@ -309,7 +297,7 @@ symbol_complete OpenBracket bs rest p = rw p.0 refl
 symbol_complete CloseBracket bs rest p = rw p.0 refl
 symbol_complete Comma bs rest p = rw p.0 refl
 symbol_complete OneColon bs [] p = rw p.0 refl
-symbol_complete OneColon bs (c ∷ rest) p = let no : (c == 58) ≡ false = not_true (c == 58) p.1 in rw (p.0, no) refl
+symbol_complete OneColon bs (c ∷ rest) p = let no : (c == 58) ≡ false = not-true (c == 58) p.1 in rw (p.0, no) refl
 symbol_complete DoubleColon bs rest p = rw p.0 refl
 
 lexeme_complete : Complete lexeme_at lexeme
@@ -318,8 +306,8 @@ lexeme_complete (Reserved w) bs rest (p, e) =
     let has : is_some (use_of w) ≡ true = has_use_is_reserved w ∙ e in
     word_complete w bs rest _ p (reserved_begins w e) (bind_at _ (run_complete w p) (rw has refl))
 lexeme_complete (Name w) bs rest (p, e) =
-    let parts = both (are_segments true w) (not (is_reserved w)) e in
-    let has_none : is_some (use_of w) ≡ false = has_use_is_reserved w ∙ not_true (is_reserved w) parts.1 in
+    let parts = and_parts (are_segments true w) (not (is_reserved w)) e in
+    let has_none : is_some (use_of w) ≡ false = has_use_is_reserved w ∙ not-true (is_reserved w) parts.1 in
     let segments : are_segments true w ≡ true = parts.0 in
     word_complete w bs rest _ p (segments_begin w parts.0) (bind_at _ (run_complete w p) (rw (has_none, segments) refl))
 lexeme_complete (Integer z) bs rest (false, ds, s, d, e, f, (mid, q, p)) = rw q (digits_complete ds mid rest _ p s d (integer_complete false z ds mid rest s d e f p))

@@ -2,21 +2,17 @@
 use Rattle.std.proofs.Common.{◌≡◌, ◌==◌, ◌∙◌, ◌&&◌, ◌||◌, ◌/◌, ◌%◌, ℕ, zero, suc, Bool, true, false, not, List, [], ◌∷◌, ◌++◌, Option, Some, None, cond, refl, ap, sym}
 use Rattle.std.specs.Prelude.{is_some, bytes_eq, get_or}
 use Rattle.std.specs.List.{list_all, list_any}
-use Rattle.std.proofs.lemmas.Bool.{eqb-true}
+use Rattle.std.proofs.lemmas.Bool.{eqb-true, and_parts}
 use Rattle.std.proofs.lemmas.Slice.Eq.{bytes_eq-Decides}
 use Rattle.cil_model.specs.Same.{same_lists, same_text}
 use Rattle.cil_model.specs.Words.{grammar_words, instruction_words, short_words, is_reserved, begins_segment, is_digit}
 use Rattle.ilasm_tokens.specs.declared.words.WordUse.{WordUse}
 use Rattle.ilasm_tokens.specs.Vocabulary.{Entry, groups, bucket_from, look_up, use_of}
 
-pub both : (a b : Bool) → a && b ≡ true → (a ≡ true) × (b ≡ true)
-both true b e = (refl, e)
-both false b e = absurd cc
-
 same_text_equal : (a b : List ℕ) → same_text a b ≡ true → a ≡ b
 same_text_equal [] [] e = refl
 same_text_equal (x ∷ xs) (y ∷ ys) e =
-    let parts = both (x == y) (same_lists ◌==◌ xs ys) e in
+    let parts = and_parts (x == y) (same_lists ◌==◌ xs ys) e in
     ap (λ (z : ℕ). z ∷ xs) (eqb-true x y parts.0) ∙ ap (λ (zs : List ℕ). y ∷ zs) (same_text_equal xs ys parts.1)
 same_text_equal [] (y ∷ ys) e = absurd cc
 same_text_equal (x ∷ xs) [] e = absurd cc
@@ -25,7 +21,7 @@ same_text_equal (x ∷ xs) [] e = absurd cc
 pub of_each : (test : List ℕ → Bool) (w : List ℕ) (vs : List (List ℕ)) → list_all test vs ≡ true → list_any (same_text w) vs ≡ true → test w ≡ true
 of_each test w [] all any = absurd cc
 of_each test w (v ∷ vs) all any =
-    let parts = both (test v) (list_all test vs) all in
+    let parts = and_parts (test v) (list_all test vs) all in
     elim (same_text w v) as (λ b. same_text w v ≡ b → (b || list_any (same_text w) vs) ≡ true → test w ≡ true) [
       | true ↦ λ same _. let here : w ≡ v = same_text_equal w v same in rw here parts.0
       | false ↦ λ _ further. of_each test w vs parts.1 further
@@ -33,8 +29,8 @@ of_each test w (v ∷ vs) all any =
 
 at : {A : Type 0} (passes : A → Bool) (absent : A) (xs : List A) (n : ℕ) → passes absent ≡ true → list_all passes xs ≡ true → passes (get_or xs n absent) ≡ true
 at passes absent [] n other all = other
-at passes absent (x ∷ xs) zero other all = (both (passes x) (list_all passes xs) all).0
-at passes absent (x ∷ xs) (suc n) other all = at passes absent xs n other (both (passes x) (list_all passes xs) all).1
+at passes absent (x ∷ xs) zero other all = (and_parts (passes x) (list_all passes xs) all).0
+at passes absent (x ∷ xs) (suc n) other all = at passes absent xs n other (and_parts (passes x) (list_all passes xs) all).1
 
 module _ (test : List ℕ → WordUse → Bool) where
   abbrev passes : Entry → Bool
@@ -43,7 +39,7 @@ module _ (test : List ℕ → WordUse → Bool) where
   in_bucket : (es : List Entry) (w : List ℕ) (u : WordUse) → list_all passes es ≡ true → look_up es w ≡ Some u → test w u ≡ true
   in_bucket [] w u all e = absurd cc
   in_bucket (x ∷ es) w u all e =
-      let parts = both (test x.0 x.1) (list_all passes es) all in
+      let parts = and_parts (test x.0 x.1) (list_all passes es) all in
       elim (bytes_eq x.0 w) as (λ b. (b ≡ true → x.0 ≡ w) → cond b (Some x.1) (look_up es w) ≡ Some u → test w u ≡ true) [
         | true ↦ λ same found.
             let word : x.0 ≡ w = same refl in
