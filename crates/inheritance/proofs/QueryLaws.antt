@@ -2,7 +2,7 @@
 use Rattle.std.proofs.Common.{◌≡◌, ◌<◌, ◌≤◌, ◌+◌, ◌-◌, ◌⊎◌, inl, inr, ℕ, zero, suc, Bool, true, false, ◌||◌, nat_le, nat_lt, if◌then◌else◌, List, [], ◌∷◌, ◌++◌, length, take, drop, replicate, Option, Some, None, slice_index_or, slice_get, refl, sym, ap, subst, ◌∙◌, arith}
 use Rattle.std.specs.List.{list_all, list_any}
 use Rattle.std.proofs.lemmas.List.Folds.{list_all-append, list_any-append}
-use Rattle.std.proofs.lemmas.Bool.{and_from, le-leb, leb-true, leb-false}
+use Rattle.std.proofs.lemmas.Bool.{and_from, le-leb, leb-true, leb-false, or_parts}
 use Rattle.std.proofs.lemmas.Bool.Decides.{leb_tells}
 use Rattle.std.proofs.lemmas.List.{take-append-drop, length-append}
 use Rattle.std.proofs.lemmas.Option.{same_Some, none-some}
@@ -224,12 +224,7 @@ module _ (p : ℕ → Bool) where
 
   pub none_of_below : (n : ℕ) → list_any p (below n) ≡ false → (k : ℕ) → k < n → p k ≡ false
   none_of_below zero e k h = absurd (omega (arith, h))
-  none_of_below (suc n) e k h = below_more (λ j. p j ≡ false) n (none_of_below n (both_false (list_any p (below n)) (p n) split).0) (both_false (list_any p (below n)) (p n) split).1 k (omega (arith, h))
+  none_of_below (suc n) e k h = below_more (λ j. p j ≡ false) n (none_of_below n (or_parts (list_any p (below n)) (p n) split).0) (or_parts (list_any p (below n)) (p n) split).1 k (omega (arith, h))
     where
-      both_false : (a b : Bool) → a || b ≡ false → (a ≡ false) × (b ≡ false)
-      both_false false false e = (refl, refl)
-      both_false false true e = absurd (not_both e)
-      both_false true b e = absurd (not_both e)
-
       split : list_any p (below n) || p n ≡ false
       split = sym (last_of_below n) ∙ e
