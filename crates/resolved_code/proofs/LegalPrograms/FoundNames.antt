@@ -4,7 +4,7 @@ use Rattle.std.specs.Prelude.{flat_map, filter_map, option_to_list}
 use Rattle.std.specs.List.{list_all, list_any, cons_option, position_from}
 use Rattle.std.specs.Option.{option_map_or}
 use Rattle.std.proofs.lemmas.List.Folds.{list_all-append, list_all-map}
-use Rattle.std.proofs.lemmas.Bool.{not-false}
+use Rattle.std.proofs.lemmas.Bool.{not-false, and_from}
 use Rattle.cil_model.specs.declared.types.ClassName.{ClassName}
 use Rattle.cil_model.specs.declared.types.Element.{Element}
 use Rattle.cil_model.specs.declared.types.Element.TheVariants.{Int32 as Int32Element, Int64 as Int64Element, Object as ObjectElement, String as StringElement, Class as ClassElement}
@@ -46,10 +46,6 @@ use Rattle.resolved_code.proofs.Numbers.Literals.{all_among_once}
 
 -- ---- tests
 
-both : (a b : Bool) → a ≡ true → b ≡ true → a && b ≡ true
-both true b h k = k
-both false b h k = never h
-
 kept : {X Y : Type 0} (f : X → Y) (o : Option X) → is_some o ≡ true → is_some (option_map f o) ≡ true
 kept f None h = never h
 kept f (Some x) h = refl
@@ -64,13 +60,13 @@ then_kept f (Some x) h each = each x
 
 all_kept : {X : Type 0} (p q : X → Bool) → ((x : X) → p x ≡ true → q x ≡ true) → (xs : List X) → list_all p xs ≡ true → list_all q xs ≡ true
 all_kept p q each [] h = refl
-all_kept p q each (x ∷ xs) h = both _ _ (each x (both_first _ _ h)) (all_kept p q each xs (both_second _ _ h))
+all_kept p q each (x ∷ xs) h = and_from _ _ (each x (both_first _ _ h)) (all_kept p q each xs (both_second _ _ h))
 
 all_four : {X : Type 0} (p q r s t : X → Bool) → ((x : X) → p x ≡ true → q x ≡ true → r x ≡ true → s x ≡ true → t x ≡ true) →
     (xs : List X) → list_all p xs ≡ true → list_all q xs ≡ true → list_all r xs ≡ true → list_all s xs ≡ true → list_all t xs ≡ true
 all_four p q r s t each [] h i j k = refl
 all_four p q r s t each (x ∷ xs) h i j k =
-    both _ _ (each x (both_first _ _ h) (both_first _ _ i) (both_first _ _ j) (both_first _ _ k)) (all_four p q r s t each xs (both_second _ _ h) (both_second _ _ i) (both_second _ _ j) (both_second _ _ k))
+    and_from _ _ (each x (both_first _ _ h) (both_first _ _ i) (both_first _ _ j) (both_first _ _ k)) (all_four p q r s t each xs (both_second _ _ h) (both_second _ _ i) (both_second _ _ j) (both_second _ _ k))
 
 all_first : {X : Type 0} (p : X → Bool) (xs ys : List X) → list_all p (xs ++ ys) ≡ true → list_all p xs ≡ true
 all_first p xs ys h = both_first _ _ (sym (list_all-append p xs ys) ∙ h)
@@ -290,7 +286,7 @@ module _ (tree : Tree) where
 
   known_both : (p : ClassName → Bool) → ((c : ClassName) → is_resolved tree c ≡ true → p c ≡ true → is_known c ≡ true) → (cs : List ClassName) → list_all (is_resolved tree) cs ≡ true → list_all p cs ≡ true → list_all is_known cs ≡ true
   known_both p each [] r h = refl
-  known_both p each (c ∷ cs) r h = both _ _ (each c (both_first _ _ r) (both_first _ _ h)) (known_both p each cs (both_second _ _ r) (both_second _ _ h))
+  known_both p each (c ∷ cs) r h = and_from _ _ (each c (both_first _ _ r) (both_first _ _ h)) (known_both p each cs (both_second _ _ r) (both_second _ _ h))
 
   class_found : (c : Class) → list_all (is_resolved tree) (heading c) ≡ true → class_finds tree c ≡ true → list_all is_type_found (map (λ (f : Field). f.field_type) (field_members c)) ≡ true → list_all is_method_found (method_members c) ≡ true →
       is_class_found (declared_as c.kind (field_members c) (method_members c)) ≡ true
@@ -336,7 +332,7 @@ module _ (tree : Tree) where
     two (c ∷ cs) h k =
         let r = is_resolved tree c in
         let p = is_possible_type tree c in
-        both (r && p) (list_all (λ x. is_resolved tree x && is_possible_type tree x) cs) (both r p (both_first r (list_all (is_resolved tree) cs) h) (both_first p (list_all (is_possible_type tree) cs) k))
+        and_from (r && p) (list_all (λ x. is_resolved tree x && is_possible_type tree x) cs) (and_from r p (both_first r (list_all (is_resolved tree) cs) h) (both_first p (list_all (is_possible_type tree) cs) k))
         (two cs (both_second r (list_all (is_resolved tree) cs) h) (both_second p (list_all (is_possible_type tree) cs) k))
 
     types_found : list_all is_type_found (types_of_tree tree) ≡ true
@@ -365,4 +361,4 @@ module _ (tree : Tree) where
         (sym (list_all-flat_map is_method_found method_members tree.classes) ∙ methods_found) in
         all_there (λ (e : ClassName × Declaration). class_rule tree e.1) (declarations tree) (
         list_all-append (λ (e : ClassName × Declaration). is_class_found e.1) built_ins (map source_entry tree.classes) ∙
-        both _ _ built_ins_found (list_all-map (λ (e : ClassName × Declaration). is_class_found e.1) source_entry tree.classes ∙ of_source))
+        and_from _ _ built_ins_found (list_all-map (λ (e : ClassName × Declaration). is_class_found e.1) source_entry tree.classes ∙ of_source))
