@@ -3,7 +3,7 @@ use Rattle.std.proofs.Common.{◌≡◌, ◌≤◌, ◌<◌, ◌+◌, ℕ, zero,
 use Rattle.std.proofs.lemmas.List.{length-map}
 use Rattle.std.specs.Prelude.{IfSome}
 use Rattle.std.specs.Option.{option_map_or}
-use Rattle.std.proofs.lemmas.Option.{same_Some}
+use Rattle.std.proofs.lemmas.Option.{same_Some, slice_get_past}
 use Rattle.cil_model.specs.declared.types.ClassName.{ClassName}
 use Rattle.cil_model.specs.declared.types.Element.{Element}
 use Rattle.cil_model.specs.declared.types.Element.TheVariants as Named
@@ -90,16 +90,11 @@ module _ (tree : Tree) where
       present (x ∷ es) zero k = refl
       present (x ∷ es) (suc m) k = present es m (omega (arith, k))
 
-  absent : {X : Type 0} (xs : List X) (m : ℕ) → length xs ≤ m → slice_get xs m ≡ None
-  absent [] m h = refl
-  absent (x ∷ xs) zero h = absurd (omega (arith, h))
-  absent (x ∷ xs) (suc m) h = absent xs m (omega (arith, h))
-
   pub unnamed : (n : ℕ) → class_name tree n ≡ None → class_named tree n ≡ object_name
   unnamed n e = ap (λ (o : Option ClassName). option_map_or (λ (x : ClassName). x) o object_name) e
 
   pub past_classes : (classes : List ResolvedClass) → AreResolved tree classes → (n : ℕ) → length classes ≤ n → class_named tree 0 ≡ class_named tree n
-  past_classes classes alike n h = sym (unnamed n (beyond_classes classes alike n (absent classes n h)))
+  past_classes classes alike n h = sym (unnamed n (beyond_classes classes alike n (slice_get_past classes n h)))
 
   -- ---- the type of a class's objects
 
