@@ -15,23 +15,17 @@ loop-index-preserved c = record {
   room = rw c.push_reserved.ensures.capacity c.loop-index.invariant.room;
 }
 
-pub returns-in_err-seats-clause-epochs : goal.returns-in_err-seats-clause-epochs
-returns-in_err-seats-clause-epochs c = IfOk-from_err c.from_residual.result _ c.from_residual.ensures.0
+pub returns-in_err-seats : goal.returns-in_err-seats
+returns-in_err-seats c =
+    let none = IfOk-from_err c.from_residual.result in
+    let err = c.from_residual.ensures.0 in
+    record { epochs = none _ err; herald = none _ err; seats = none _ err }
 
-pub returns-in_err-seats-clause-herald : goal.returns-in_err-seats-clause-herald
-returns-in_err-seats-clause-herald c = IfOk-from_err c.from_residual.result _ c.from_residual.ensures.0
-
-pub returns-in_err-seats-clause-seats : goal.returns-in_err-seats-clause-seats
-returns-in_err-seats-clause-seats c = IfOk-from_err c.from_residual.result _ c.from_residual.ensures.0
-
-pub returns-in_err-words-clause-epochs : goal.returns-in_err-words-clause-epochs
-returns-in_err-words-clause-epochs c = IfOk-from_err c.from_residual-in_err-words.result _ c.from_residual-in_err-words.ensures.0
-
-pub returns-in_err-words-clause-herald : goal.returns-in_err-words-clause-herald
-returns-in_err-words-clause-herald c = IfOk-from_err c.from_residual-in_err-words.result _ c.from_residual-in_err-words.ensures.0
-
-pub returns-in_err-words-clause-seats : goal.returns-in_err-words-clause-seats
-returns-in_err-words-clause-seats c = IfOk-from_err c.from_residual-in_err-words.result _ c.from_residual-in_err-words.ensures.0
+pub returns-in_err-words : goal.returns-in_err-words
+returns-in_err-words c =
+    let none = IfOk-from_err c.from_residual-in_err-words.result in
+    let err = c.from_residual-in_err-words.ensures.0 in
+    record { epochs = none _ err; herald = none _ err; seats = none _ err }
 
 pub returns-clause-seats : goal.returns-clause-seats
 returns-clause-seats c =

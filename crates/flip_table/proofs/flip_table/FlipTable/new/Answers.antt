@@ -18,23 +18,17 @@ loop-index-preserved c = record {
   room = rw c.push_reserved.ensures.capacity c.loop-index.invariant.room;
 }
 
-pub returns-in_err-writers-clause-table : goal.returns-in_err-writers-clause-table
-returns-in_err-writers-clause-table c = IfOk-from_err c.from_residual.result _ c.from_residual.ensures.0
+pub returns-in_err-writers : goal.returns-in_err-writers
+returns-in_err-writers c =
+    let none = IfOk-from_err c.from_residual.result in
+    let err = c.from_residual.ensures.0 in
+    record { table = none _ err; copier = none _ err; writers = none _ err }
 
-pub returns-in_err-writers-clause-copier : goal.returns-in_err-writers-clause-copier
-returns-in_err-writers-clause-copier c = IfOk-from_err c.from_residual.result _ c.from_residual.ensures.0
-
-pub returns-in_err-writers-clause-writers : goal.returns-in_err-writers-clause-writers
-returns-in_err-writers-clause-writers c = IfOk-from_err c.from_residual.result _ c.from_residual.ensures.0
-
-pub returns-in_err-words-clause-table : goal.returns-in_err-words-clause-table
-returns-in_err-words-clause-table c = IfOk-from_err c.from_residual-in_err-words.result _ c.from_residual-in_err-words.ensures.0
-
-pub returns-in_err-words-clause-copier : goal.returns-in_err-words-clause-copier
-returns-in_err-words-clause-copier c = IfOk-from_err c.from_residual-in_err-words.result _ c.from_residual-in_err-words.ensures.0
-
-pub returns-in_err-words-clause-writers : goal.returns-in_err-words-clause-writers
-returns-in_err-words-clause-writers c = IfOk-from_err c.from_residual-in_err-words.result _ c.from_residual-in_err-words.ensures.0
+pub returns-in_err-words : goal.returns-in_err-words
+returns-in_err-words c =
+    let none = IfOk-from_err c.from_residual-in_err-words.result in
+    let err = c.from_residual-in_err-words.ensures.0 in
+    record { table = none _ err; copier = none _ err; writers = none _ err }
 
 pub deal_writer-requires-clause-words : goal.deal_writer-requires-clause-words
 deal_writer-requires-clause-words c = (c.loop-index.invariant.same_table, rw c.in_ok-words.ensures.words.0 (some_words _))

@@ -23,41 +23,29 @@ new-requires-clause-owned c = rw (c.in_ok-from_slice.ensures.items, c.from.ensur
 pub new-requires-clause-limit : goal.new-requires-clause-limit
 new-requires-clause-limit c = rw c.from-2.ensures (limit_within c.args.objects c.requires.sizes.0)
 
-pub returns-in_err-from_slice-clause-flip : goal.returns-in_err-from_slice-clause-flip
-returns-in_err-from_slice-clause-flip c = IfOk-from_err c.from_residual.result _ c.from_residual.ensures.0
+pub returns-in_err-from_slice : goal.returns-in_err-from_slice
+returns-in_err-from_slice c =
+    let none = IfOk-from_err c.from_residual.result in
+    let err = c.from_residual.ensures.0 in
+    record { flip = none _ err; copier = none _ err; writers = none _ err }
 
-pub returns-in_err-from_slice-clause-copier : goal.returns-in_err-from_slice-clause-copier
-returns-in_err-from_slice-clause-copier c = IfOk-from_err c.from_residual.result _ c.from_residual.ensures.0
+pub returns-in_err-copied : goal.returns-in_err-copied
+returns-in_err-copied c =
+    let none = IfOk-from_err c.from_residual-in_err-copied.result in
+    let err = c.from_residual-in_err-copied.ensures.0 in
+    record { flip = none _ err; copier = none _ err; writers = none _ err }
 
-pub returns-in_err-from_slice-clause-writers : goal.returns-in_err-from_slice-clause-writers
-returns-in_err-from_slice-clause-writers c = IfOk-from_err c.from_residual.result _ c.from_residual.ensures.0
+pub returns-in_err-table : goal.returns-in_err-table
+returns-in_err-table c =
+    let none = IfOk-from_err c.from_residual-in_err-table.result in
+    let err = c.from_residual-in_err-table.ensures.0 in
+    record { flip = none _ err; copier = none _ err; writers = none _ err }
 
-pub returns-in_err-copied-clause-flip : goal.returns-in_err-copied-clause-flip
-returns-in_err-copied-clause-flip c = IfOk-from_err c.from_residual-in_err-copied.result _ c.from_residual-in_err-copied.ensures.0
-
-pub returns-in_err-copied-clause-copier : goal.returns-in_err-copied-clause-copier
-returns-in_err-copied-clause-copier c = IfOk-from_err c.from_residual-in_err-copied.result _ c.from_residual-in_err-copied.ensures.0
-
-pub returns-in_err-copied-clause-writers : goal.returns-in_err-copied-clause-writers
-returns-in_err-copied-clause-writers c = IfOk-from_err c.from_residual-in_err-copied.result _ c.from_residual-in_err-copied.ensures.0
-
-pub returns-in_err-table-clause-flip : goal.returns-in_err-table-clause-flip
-returns-in_err-table-clause-flip c = IfOk-from_err c.from_residual-in_err-table.result _ c.from_residual-in_err-table.ensures.0
-
-pub returns-in_err-table-clause-copier : goal.returns-in_err-table-clause-copier
-returns-in_err-table-clause-copier c = IfOk-from_err c.from_residual-in_err-table.result _ c.from_residual-in_err-table.ensures.0
-
-pub returns-in_err-table-clause-writers : goal.returns-in_err-table-clause-writers
-returns-in_err-table-clause-writers c = IfOk-from_err c.from_residual-in_err-table.result _ c.from_residual-in_err-table.ensures.0
-
-pub returns-in_err-writers-clause-flip : goal.returns-in_err-writers-clause-flip
-returns-in_err-writers-clause-flip c = IfOk-from_err c.from_residual-in_err-writers.result _ c.from_residual-in_err-writers.ensures.0
-
-pub returns-in_err-writers-clause-copier : goal.returns-in_err-writers-clause-copier
-returns-in_err-writers-clause-copier c = IfOk-from_err c.from_residual-in_err-writers.result _ c.from_residual-in_err-writers.ensures.0
-
-pub returns-in_err-writers-clause-writers : goal.returns-in_err-writers-clause-writers
-returns-in_err-writers-clause-writers c = IfOk-from_err c.from_residual-in_err-writers.result _ c.from_residual-in_err-writers.ensures.0
+pub returns-in_err-writers : goal.returns-in_err-writers
+returns-in_err-writers c =
+    let none = IfOk-from_err c.from_residual-in_err-writers.result in
+    let err = c.from_residual-in_err-writers.ensures.0 in
+    record { flip = none _ err; copier = none _ err; writers = none _ err }
 
 pub invariant_of-flip : goal.invariant_of-flip
 invariant_of-flip c = (c.requires.sizes.0, rw c.in_ok-table.ensures.table (ap (λ n. n + 1) c.from-2.ensures), rw (c.in_ok-table.ensures.table, c.in_ok-from_slice.ensures.items) c.requires.writers.0)
