@@ -9,77 +9,29 @@ use Rattle.interleaving_core.proofs.engine.Engine.collect.Goals as goal
 pub returns-then-not-all_seen-clause-transitions : goal.returns-then-not-all_seen-clause-transitions
 returns-then-not-all_seen-clause-transitions c = sym (waits (machine_state_of c.args.self.now) (sym c.if-not-all_seen.ensures))
 
-pub open_cycle-requires-clause-limits : goal.open_cycle-requires-clause-limits
-open_cycle-requires-clause-limits c = c.requires.limits
+pub open_cycle-requires : goal.open_cycle-requires
+open_cycle-requires c = record { limits = c.requires.limits; sound = c.requires.sound; posted_phase = sym c.in-Idle.ensures.posted_phase; seen = sym c.if-not-all_seen.ensures }
 
-pub open_cycle-requires-clause-sound : goal.open_cycle-requires-clause-sound
-open_cycle-requires-clause-sound c = c.requires.sound
+pub mark_on-requires : goal.mark_on-requires
+mark_on-requires c = record { sound = c.requires.sound; posted_phase = sym c.in-Mark.ensures.posted_phase; seen = sym c.if-not-all_seen.ensures }
 
-pub open_cycle-requires-clause-posted_phase : goal.open_cycle-requires-clause-posted_phase
-open_cycle-requires-clause-posted_phase c = sym c.in-Idle.ensures.posted_phase
+pub look_on-requires : goal.look_on-requires
+look_on-requires c = record { sound = c.requires.sound; posted_phase = sym c.in-Allocate.ensures.posted_phase; seen = sym c.if-not-all_seen.ensures }
 
-pub open_cycle-requires-clause-seen : goal.open_cycle-requires-clause-seen
-open_cycle-requires-clause-seen c = sym c.if-not-all_seen.ensures
+pub copy_on-requires : goal.copy_on-requires
+copy_on-requires c = record { sound = c.requires.sound; posted_phase = sym c.in-Copy.ensures.posted_phase; seen = sym c.if-not-all_seen.ensures }
 
-pub mark_on-requires-clause-sound : goal.mark_on-requires-clause-sound
-mark_on-requires-clause-sound c = c.requires.sound
+pub flip_on-requires : goal.flip_on-requires
+flip_on-requires c = record { sound = c.requires.sound; few = c.requires.few; posted_phase = sym c.in-HeapFlip.ensures.posted_phase; seen = sym c.if-not-all_seen.ensures }
 
-pub mark_on-requires-clause-posted_phase : goal.mark_on-requires-clause-posted_phase
-mark_on-requires-clause-posted_phase c = sym c.in-Mark.ensures.posted_phase
+pub clear_on-requires : goal.clear_on-requires
+clear_on-requires c = record { sound = c.requires.sound; posted_phase = sym c.in-Reclaim.ensures.posted_phase; seen = sym c.if-not-all_seen.ensures }
 
-pub mark_on-requires-clause-seen : goal.mark_on-requires-clause-seen
-mark_on-requires-clause-seen c = sym c.if-not-all_seen.ensures
+pub post-requires : goal.post-requires
+post-requires c = record { next = ap phase_after c.in-PreFlip.ensures.posted_phase; seen = sym c.if-not-all_seen.ensures }
 
-pub look_on-requires-clause-sound : goal.look_on-requires-clause-sound
-look_on-requires-clause-sound c = c.requires.sound
-
-pub look_on-requires-clause-posted_phase : goal.look_on-requires-clause-posted_phase
-look_on-requires-clause-posted_phase c = sym c.in-Allocate.ensures.posted_phase
-
-pub look_on-requires-clause-seen : goal.look_on-requires-clause-seen
-look_on-requires-clause-seen c = sym c.if-not-all_seen.ensures
-
-pub copy_on-requires-clause-sound : goal.copy_on-requires-clause-sound
-copy_on-requires-clause-sound c = c.requires.sound
-
-pub copy_on-requires-clause-posted_phase : goal.copy_on-requires-clause-posted_phase
-copy_on-requires-clause-posted_phase c = sym c.in-Copy.ensures.posted_phase
-
-pub copy_on-requires-clause-seen : goal.copy_on-requires-clause-seen
-copy_on-requires-clause-seen c = sym c.if-not-all_seen.ensures
-
-pub flip_on-requires-clause-sound : goal.flip_on-requires-clause-sound
-flip_on-requires-clause-sound c = c.requires.sound
-
-pub flip_on-requires-clause-few : goal.flip_on-requires-clause-few
-flip_on-requires-clause-few c = c.requires.few
-
-pub flip_on-requires-clause-posted_phase : goal.flip_on-requires-clause-posted_phase
-flip_on-requires-clause-posted_phase c = sym c.in-HeapFlip.ensures.posted_phase
-
-pub flip_on-requires-clause-seen : goal.flip_on-requires-clause-seen
-flip_on-requires-clause-seen c = sym c.if-not-all_seen.ensures
-
-pub clear_on-requires-clause-sound : goal.clear_on-requires-clause-sound
-clear_on-requires-clause-sound c = c.requires.sound
-
-pub clear_on-requires-clause-posted_phase : goal.clear_on-requires-clause-posted_phase
-clear_on-requires-clause-posted_phase c = sym c.in-Reclaim.ensures.posted_phase
-
-pub clear_on-requires-clause-seen : goal.clear_on-requires-clause-seen
-clear_on-requires-clause-seen c = sym c.if-not-all_seen.ensures
-
-pub post-requires-clause-next : goal.post-requires-clause-next
-post-requires-clause-next c = ap phase_after c.in-PreFlip.ensures.posted_phase
-
-pub post-requires-clause-seen : goal.post-requires-clause-seen
-post-requires-clause-seen c = sym c.if-not-all_seen.ensures
-
-pub post-requires-in-ThreadFlip-clause-next : goal.post-requires-in-ThreadFlip-clause-next
-post-requires-in-ThreadFlip-clause-next c = ap phase_after c.in-ThreadFlip.ensures.posted_phase
-
-pub post-requires-in-ThreadFlip-clause-seen : goal.post-requires-in-ThreadFlip-clause-seen
-post-requires-in-ThreadFlip-clause-seen c = sym c.if-not-all_seen.ensures
+pub post-requires-in-ThreadFlip : goal.post-requires-in-ThreadFlip
+post-requires-in-ThreadFlip c = record { next = ap phase_after c.in-ThreadFlip.ensures.posted_phase; seen = sym c.if-not-all_seen.ensures }
 
 pub returns-in-Idle-clause-transitions : goal.returns-in-Idle-clause-transitions
 returns-in-Idle-clause-transitions c =
