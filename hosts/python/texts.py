@@ -33,7 +33,7 @@ def do_events(machine, schedule):
 def limits_of_words(words):
     """The limits that the words of a command name."""
     names = {"--words": "words", "--max-words": "max_words", "--budget": "budget", "--depth": "depth"}
-    return {names[word]: int(words[place + 1]) for place, word in enumerate(words) if word in names}
+    return {names[word]: int(words[index + 1]) for index, word in enumerate(words) if word in names}
 
 
 def ends_of(machine):

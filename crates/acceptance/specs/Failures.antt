@@ -2,7 +2,7 @@
 use Rattle.std.specs.Fmt.{decimal}
 use Rattle.std.specs.IoError.{error_kind}
 use Rattle.std.specs.Prelude.{◌≡◌, ◌≢◌, ◌⊎◌, ◌++◌, ◌∷◌, [], ℕ, Bool, true, false, List, codes}
-use Rattle.outputs.specs.Taken.{Fails, Taken, Takes}
+use Rattle.outputs.specs.Streams.{Fails, StreamState, Takes}
 use Rattle.std.specs.declared.io.Error.{Error}
 use Rattle.std.specs.declared.io.ErrorKind.TheVariants.{OutOfMemory}
 use Rattle.interleaving_core.specs.Refusals.{number_of as making_number_of}
@@ -60,7 +60,7 @@ message_of Memory = codes "memory" ++ 10 ∷ []
 message_of Device = codes "device" ++ 10 ∷ []
 
 -- the line of a failure is written, and the status is the failure's; or it is cut by a failed write, and the status is 5
-abbrev pub IsReported : Failure → Taken → Taken → ℕ → Type 0
+abbrev pub IsReported : Failure → StreamState → StreamState → ℕ → Type 0
 IsReported failure err err' status =
     ((status ≡ status_of_failure failure) × Takes err err' (message_of failure))
     ⊎ ((status ≡ 5) × Fails err err' (message_of failure))

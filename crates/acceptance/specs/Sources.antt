@@ -28,8 +28,8 @@ pub record IsAcceptedSource (source : List ℕ) (tree : Tree) : Type 0 where
   pub accepted : IsAccepted tree
 
 -- the bytes have a tree that is an accepted program
-abbrev pub IsLetIn : List ℕ → Type 0
-IsLetIn source = (tree : Tree) × IsAcceptedSource source tree
+abbrev pub HasAcceptedTree : List ℕ → Type 0
+HasAcceptedTree source = (tree : Tree) × IsAcceptedSource source tree
 
 -- why a source is not accepted: one of its errors, reported as this failure
 abbrev pub IsNotAccepted : List ℕ → Failure → Type 0
@@ -50,7 +50,7 @@ IsNotRunWithin limits failure =
 
 -- why no machine has run a list of events, whichever it is: the source, then the limits and memory
 abbrev pub IsNotRun : List ℕ → Limits → Failure → Type 0
-IsNotRun source limits failure = IsNotAccepted source failure ⊎ (IsLetIn source × IsNotRunWithin limits failure)
+IsNotRun source limits failure = IsNotAccepted source failure ⊎ (HasAcceptedTree source × IsNotRunWithin limits failure)
 
 -- a machine holds exactly what a program begins with, which represents the initial state
 pub record IsOpened (tree : Tree) (limits : Limits) (machine : MachineState) : Type 0 where

@@ -1,7 +1,7 @@
 //! Why a source is not run, or an order not carried out, and what is reported of it.
 
 ghost use Rattle.std.specs.Prelude.{◌≡◌, OnErr, OnOk};
-ghost use Rattle.outputs.specs.Taken.{Fails, Takes};
+ghost use Rattle.outputs.specs.Streams.{Fails, Takes};
 ghost use Rattle.acceptance.specs.Failures.{IsFailureOfDevice, IsReported, failure_of_making};
 ghost use Rattle.acceptance.specs.Failures.{failure_of_schedule};
 ghost use Rattle.acceptance.specs.Failures.{is_refusal, message_of, number_line, status_of_failure};

@@ -11,8 +11,8 @@ use Rattle.object_memory.specs.declared.values.Value.{Value}
 use Rattle.object_memory.specs.declared.values.Value.TheVariants.{Ref}
 use Rattle.object_memory.specs.Cells.{literal}
 use Rattle.object_memory.specs.Objects.{Objects, monitor_at, object_slots}
-use Rattle.barriers.specs.Barriers.{can_bear, is_monitor_storable, is_static_storable, is_storable, is_word_storable, object_born, stored_int, stored_monitor, stored_ref, stored_static, stored_value}
-use Rattle.api_tests.specs.TestHeap.{IsSeen, after_birth, after_guest, after_host, after_int, after_ints, after_monitors, after_ref, after_refs, after_static, after_statics, after_value, after_values, fields, guest, guest_copied, host, host_copied, pale, test_objects, white}
+use Rattle.barriers.specs.Barriers.{can_allocate, is_monitor_storable, is_static_storable, is_storable, is_word_storable, object_born, stored_int, stored_monitor, stored_ref, stored_static, stored_value}
+use Rattle.api_tests.specs.TestHeap.{IsSeen, after_birth, after_guest, after_host, after_int, after_ints, after_monitors, after_ref, after_refs, after_static, after_statics, after_value, after_values, fields, guest, guest_copied, host, host_copied, other_white, test_objects, white}
 
 -- what holds in each of the eight phases
 in_all : (p : Phase → Bool) → p Idle ≡ true → p Mark ≡ true → p Allocate ≡ true → p Copy ≡ true → p PreFlip ≡ true → p HeapFlip ≡ true → p ThreadFlip ≡ true → p Reclaim ≡ true → (f : Phase) → p f ≡ true
@@ -101,10 +101,10 @@ text_done f {p = p} eo ea = along_two (λ o a. p ≡ stored_monitor f o a (Held 
 
 -- ---- static fields, and the birth
 
-pub first_static : (f : Phase) {o : Objects} {b : Addr} → o ≡ after_monitors f → b ≡ pale → is_static_storable f o (Ref b) ≡ true
-first_static f eo eb = along_two (λ o b. is_static_storable f o (Ref b) ≡ true) eo eb (in_all (λ g. is_static_storable g (after_monitors g) (Ref pale)) refl refl refl refl refl refl refl refl f)
+pub first_static : (f : Phase) {o : Objects} {b : Addr} → o ≡ after_monitors f → b ≡ other_white → is_static_storable f o (Ref b) ≡ true
+first_static f eo eb = along_two (λ o b. is_static_storable f o (Ref b) ≡ true) eo eb (in_all (λ g. is_static_storable g (after_monitors g) (Ref other_white)) refl refl refl refl refl refl refl refl f)
 
-pub first_static_done : (f : Phase) {o p : Objects} {xs ys : List Value} {b : Addr} → o ≡ after_monitors f → xs ≡ fields → b ≡ pale → (p, ys) ≡ stored_static f o xs 0 (Ref b) → (p, ys) ≡ after_static f
+pub first_static_done : (f : Phase) {o p : Objects} {xs ys : List Value} {b : Addr} → o ≡ after_monitors f → xs ≡ fields → b ≡ other_white → (p, ys) ≡ stored_static f o xs 0 (Ref b) → (p, ys) ≡ after_static f
 first_static_done f {p = p} {ys = ys} eo es eb = along (λ o xs b. (p, ys) ≡ stored_static f o xs 0 (Ref b) → (p, ys) ≡ after_static f) eo es eb (λ e. e)
 
 pub second_static : (f : Phase) {o : Objects} {xs : List Value} {b : Addr} → (o, xs) ≡ after_static f → b ≡ guest → is_static_storable f o (Ref b) ≡ true
@@ -113,8 +113,8 @@ second_static f e eb = along_two (λ (x : Objects × List Value) b. is_static_st
 pub second_static_done : (f : Phase) {o p : Objects} {xs ys : List Value} {b : Addr} → (o, xs) ≡ after_static f → b ≡ guest → (p, ys) ≡ stored_static f o xs 1 (Ref b) → (p, ys) ≡ after_statics f
 second_static_done f {p = p} {ys = ys} e eb = along_two (λ (x : Objects × List Value) b. (p, ys) ≡ stored_static f x.0 x.1 1 (Ref b) → (p, ys) ≡ after_statics f) e eb (λ d. d)
 
-pub bears : (f : Phase) {o : Objects} {xs : List Value} → (o, xs) ≡ after_statics f → can_bear f o ≡ true
-bears f e = subst (λ (x : Objects × List Value). can_bear f x.0 ≡ true) (sym e) (in_all (λ g. can_bear g ((after_statics g).0)) refl refl refl refl refl refl refl refl f)
+pub bears : (f : Phase) {o : Objects} {xs : List Value} → (o, xs) ≡ after_statics f → can_allocate f o ≡ true
+bears f e = subst (λ (x : Objects × List Value). can_allocate f x.0 ≡ true) (sym e) (in_all (λ g. can_allocate g ((after_statics g).0)) refl refl refl refl refl refl refl refl f)
 
 pub born : (f : Phase) {o p : Objects} {xs : List Value} {r : Option Addr} → (o, xs) ≡ after_statics f → (p, r) ≡ object_born f o (Instance 5) 2 → (p, r) ≡ after_birth f
 born f {p = p} {r = r} e = subst (λ (x : Objects × List Value). (p, r) ≡ object_born f x.0 (Instance 5) 2 → (p, r) ≡ after_birth f) (sym e) (λ d. d)
@@ -122,14 +122,14 @@ born f {p = p} {r = r} e = subst (λ (x : Objects × List Value). (p, r) ≡ obj
 -- ---- what is read
 
 reported : (f : Phase) → IsSeen f ((after_birth f).0) ((after_birth f).1)
-reported Idle = record { old_slots = refl; new_slots = refl; white_there = refl; pale_there = refl; host_monitor = refl; host_copied_monitor = refl; guest_monitor = refl; guest_copied_monitor = refl; text_monitor = refl; twins = refl; others = refl; nulls = refl; born = refl; copy = refl }
-reported Mark = record { old_slots = refl; new_slots = refl; white_there = refl; pale_there = refl; host_monitor = refl; host_copied_monitor = refl; guest_monitor = refl; guest_copied_monitor = refl; text_monitor = refl; twins = refl; others = refl; nulls = refl; born = refl; copy = refl }
-reported Allocate = record { old_slots = refl; new_slots = refl; white_there = refl; pale_there = refl; host_monitor = refl; host_copied_monitor = refl; guest_monitor = refl; guest_copied_monitor = refl; text_monitor = refl; twins = refl; others = refl; nulls = refl; born = refl; copy = refl }
-reported Copy = record { old_slots = refl; new_slots = refl; white_there = refl; pale_there = refl; host_monitor = refl; host_copied_monitor = refl; guest_monitor = refl; guest_copied_monitor = refl; text_monitor = refl; twins = refl; others = refl; nulls = refl; born = refl; copy = refl }
-reported PreFlip = record { old_slots = refl; new_slots = refl; white_there = refl; pale_there = refl; host_monitor = refl; host_copied_monitor = refl; guest_monitor = refl; guest_copied_monitor = refl; text_monitor = refl; twins = refl; others = refl; nulls = refl; born = refl; copy = refl }
-reported HeapFlip = record { old_slots = refl; new_slots = refl; white_there = refl; pale_there = refl; host_monitor = refl; host_copied_monitor = refl; guest_monitor = refl; guest_copied_monitor = refl; text_monitor = refl; twins = refl; others = refl; nulls = refl; born = refl; copy = refl }
-reported ThreadFlip = record { old_slots = refl; new_slots = refl; white_there = refl; pale_there = refl; host_monitor = refl; host_copied_monitor = refl; guest_monitor = refl; guest_copied_monitor = refl; text_monitor = refl; twins = refl; others = refl; nulls = refl; born = refl; copy = refl }
-reported Reclaim = record { old_slots = refl; new_slots = refl; white_there = refl; pale_there = refl; host_monitor = refl; host_copied_monitor = refl; guest_monitor = refl; guest_copied_monitor = refl; text_monitor = refl; twins = refl; others = refl; nulls = refl; born = refl; copy = refl }
+reported Idle = record { old_slots = refl; new_slots = refl; white_there = refl; other_white_there = refl; host_monitor = refl; host_copied_monitor = refl; guest_monitor = refl; guest_copied_monitor = refl; text_monitor = refl; twins = refl; others = refl; nulls = refl; born = refl; copy = refl }
+reported Mark = record { old_slots = refl; new_slots = refl; white_there = refl; other_white_there = refl; host_monitor = refl; host_copied_monitor = refl; guest_monitor = refl; guest_copied_monitor = refl; text_monitor = refl; twins = refl; others = refl; nulls = refl; born = refl; copy = refl }
+reported Allocate = record { old_slots = refl; new_slots = refl; white_there = refl; other_white_there = refl; host_monitor = refl; host_copied_monitor = refl; guest_monitor = refl; guest_copied_monitor = refl; text_monitor = refl; twins = refl; others = refl; nulls = refl; born = refl; copy = refl }
+reported Copy = record { old_slots = refl; new_slots = refl; white_there = refl; other_white_there = refl; host_monitor = refl; host_copied_monitor = refl; guest_monitor = refl; guest_copied_monitor = refl; text_monitor = refl; twins = refl; others = refl; nulls = refl; born = refl; copy = refl }
+reported PreFlip = record { old_slots = refl; new_slots = refl; white_there = refl; other_white_there = refl; host_monitor = refl; host_copied_monitor = refl; guest_monitor = refl; guest_copied_monitor = refl; text_monitor = refl; twins = refl; others = refl; nulls = refl; born = refl; copy = refl }
+reported HeapFlip = record { old_slots = refl; new_slots = refl; white_there = refl; other_white_there = refl; host_monitor = refl; host_copied_monitor = refl; guest_monitor = refl; guest_copied_monitor = refl; text_monitor = refl; twins = refl; others = refl; nulls = refl; born = refl; copy = refl }
+reported ThreadFlip = record { old_slots = refl; new_slots = refl; white_there = refl; other_white_there = refl; host_monitor = refl; host_copied_monitor = refl; guest_monitor = refl; guest_copied_monitor = refl; text_monitor = refl; twins = refl; others = refl; nulls = refl; born = refl; copy = refl }
+reported Reclaim = record { old_slots = refl; new_slots = refl; white_there = refl; other_white_there = refl; host_monitor = refl; host_copied_monitor = refl; guest_monitor = refl; guest_copied_monitor = refl; text_monitor = refl; twins = refl; others = refl; nulls = refl; born = refl; copy = refl }
 
 pub seen : (f : Phase) (o : Objects) (born : Option Addr) → (o, born) ≡ after_birth f → IsSeen f o born
 seen f o born e = subst (λ (x : Objects × Option Addr). IsSeen f x.0 x.1) (sym e) (reported f)

@@ -9,7 +9,7 @@ use Rattle.object_memory.specs.declared.values.Value.{Value}
 use Rattle.object_memory.specs.declared.values.Value.TheVariants.{Ref}
 use Rattle.object_memory.specs.Cells.{Cell, literal, null}
 use Rattle.object_memory.specs.Objects.{Objects, monitor_at, object_cell, object_slots}
-use Rattle.barriers.specs.Barriers.{are_comparable, is_other_there, object_born, stored_int, stored_monitor, stored_ref, stored_static, stored_value}
+use Rattle.barriers.specs.Barriers.{are_comparable, is_other_in_heap, object_born, stored_int, stored_monitor, stored_ref, stored_static, stored_value}
 
 -- ---- the heap
 
@@ -33,8 +33,8 @@ guest_copied = address_of (10 + MOST_WORDS)
 abbrev pub white : Addr
 white = address_of 1
 
-abbrev pub pale : Addr
-pale = address_of 5
+abbrev pub other_white : Addr
+other_white = address_of 5
 
 abbrev cell : (slots : ℕ) → Bool → Option Addr → Cell
 cell slots marked other = record { kind = Instance 5; slots = replicate slots 0; marked = marked; other = other; monitor = Free }
@@ -85,7 +85,7 @@ abbrev pub fields : List Value
 fields = Ref (record { number = 0 }) ∷ Ref (record { number = 0 }) ∷ []
 
 abbrev pub after_static : Phase → Objects × List Value
-after_static f = stored_static f (after_monitors f) fields 0 (Ref pale)
+after_static f = stored_static f (after_monitors f) fields 0 (Ref other_white)
 
 abbrev pub after_statics : Phase → Objects × List Value
 after_statics f = stored_static f ((after_static f).0) ((after_static f).1) 1 (Ref guest)
@@ -101,7 +101,7 @@ pub record IsSeen (f : Phase) (o : Objects) (r : Option Addr) : Type 0 where
   pub old_slots : length (object_slots o host) ≡ 6
   pub new_slots : length (object_slots o host_copied) ≡ 6
   pub white_there : IsSome (object_cell o white)
-  pub pale_there : IsSome (object_cell o pale)
+  pub other_white_there : IsSome (object_cell o other_white)
   pub host_monitor : IsSome (monitor_at o host)
   pub host_copied_monitor : IsSome (monitor_at o host_copied)
   pub guest_monitor : IsSome (monitor_at o guest)
@@ -111,4 +111,4 @@ pub record IsSeen (f : Phase) (o : Objects) (r : Option Addr) : Type 0 where
   pub others : are_comparable f o host guest ≡ true
   pub nulls : are_comparable f o null null ≡ true
   pub born : IfSome r (λ a. IsSome (object_cell o a))
-  pub copy : IfSome r (λ a. is_other_there o a ≡ true)
+  pub copy : IfSome r (λ a. is_other_in_heap o a ≡ true)

@@ -2,7 +2,7 @@
 
 ghost use Rattle.std.specs.Prelude.{◌≡◌, ◌<◌, true, IfOk, IfSome, IsSome, length};
 ghost use Rattle.object_memory.specs.Objects.{object_cell, object_slots};
-ghost use Rattle.barriers.specs.Barriers.{is_other_there};
+ghost use Rattle.barriers.specs.Barriers.{is_other_in_heap};
 ghost use Rattle.api_tests.specs.TestHeap.{IsSeen, address_of, after_birth, after_ints, fields, test_objects};
 
 use barriers::{birth, same, store_int, store_monitor, store_ref, store_static, store_value};
@@ -308,7 +308,7 @@ fn is_marked(heap: &Heap, copy: Option<Addr>) -> bool
 /// The other copy.
 fn other(heap: &Heap, copy: Option<Addr>) -> Option<Addr>
     requires there { IfSome copy (λ a. IsSome (object_cell heap.now a)) }
-    requires other { IfSome copy (λ a. is_other_there heap.now a ≡ true) }
+    requires other { IfSome copy (λ a. is_other_in_heap heap.now a ≡ true) }
     ensures { IfSome result (λ a. IsSome (object_cell heap.now a)) }
 {
     match copy {

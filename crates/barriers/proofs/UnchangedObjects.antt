@@ -12,7 +12,7 @@ use Rattle.object_memory.specs.Cells.{Cell, cell_in, store_slot, store_monitor}
 use Rattle.object_memory.specs.Spaces.{Spaces, change_at, change_copies, change_if, is_old, is_white, marked_if, other_of, set_mark}
 use Rattle.object_memory.specs.Objects.{Objects, object_cell, object_slots, with_cell, with_slot}
 use Rattle.object_memory.proofs.Counts.{change-count, change-there}
-use Rattle.barriers.specs.Barriers.{is_other_alike, is_other_there, with_both, with_both_monitors, with_marked}
+use Rattle.barriers.specs.Barriers.{other_has_slot, is_other_in_heap, with_both, with_both_monitors, with_marked}
 
 -- the other copy, as the heap reports it
 pub other_decoded : (o : Option Cell) (r : Option Addr) → option_map (λ (c : Cell). c.other) o ≡ Some r → other_of o ≡ r
@@ -20,10 +20,10 @@ other_decoded None r e = absurd cc
 other_decoded (Some c) r e = cc
 
 -- the other copy that has a slot too, and one that lies there
-has_slot : (o : Objects) (a b : Addr) (slot : ℕ) → is_other_alike o a slot ≡ true → other_of (object_cell o a) ≡ Some b → slot < length (object_slots o b)
+has_slot : (o : Objects) (a b : Addr) (slot : ℕ) → other_has_slot o a slot ≡ true → other_of (object_cell o a) ≡ Some b → slot < length (object_slots o b)
 has_slot o a b slot alike other = ltb-true slot (length (object_slots o b)) (sym (ap (λ r. option_map_or (λ c. nat_lt slot (length (object_slots o c))) r true) other) ∙ alike)
 
-lies_there : (o : Objects) (a b : Addr) → is_other_there o a ≡ true → other_of (object_cell o a) ≡ Some b → IsSome (object_cell o b)
+lies_there : (o : Objects) (a b : Addr) → is_other_in_heap o a ≡ true → other_of (object_cell o a) ≡ Some b → IsSome (object_cell o b)
 lies_there o a b there other = sym (ap (λ r. option_map_or (λ c. is_some (object_cell o c)) r true) other) ∙ there
 
 -- ---- slots
@@ -40,7 +40,7 @@ marked_slots o (Int64 n) b slot inside = inside
 marked_slots o (Native n) b slot inside = inside
 
 -- after a store to one copy the other one has the slot still
-pub other_slot : (o p : Objects) (a b : Addr) (slot w : ℕ) → p ≡ with_slot o a slot w → is_other_alike o a slot ≡ true → option_map (λ (c : Cell). c.other) (object_cell o a) ≡ Some (Some b) → slot < length (object_slots p b)
+pub other_slot : (o p : Objects) (a b : Addr) (slot w : ℕ) → p ≡ with_slot o a slot w → other_has_slot o a slot ≡ true → option_map (λ (c : Cell). c.other) (object_cell o a) ≡ Some (Some b) → slot < length (object_slots p b)
 other_slot o p a b slot w is alike other =
     subst (λ (x : Objects). slot < length (object_slots x b)) (sym is)
     (subst (λ n. slot < n) (sym (change-count (store_slot slot w) (λ c. length-set c.slots slot w) o.spaces a b)) (has_slot o a b slot alike (other_decoded (object_cell o a) (Some b) other)))
@@ -48,7 +48,7 @@ other_slot o p a b slot w is alike other =
 -- ---- monitors
 
 -- after a store of a monitor to one copy the other one is there still
-pub other_there : (o p : Objects) (a b : Addr) (m : Monitor) → p ≡ with_cell (store_monitor m) o a → is_other_there o a ≡ true → option_map (λ (c : Cell). c.other) (object_cell o a) ≡ Some (Some b) → IsSome (object_cell p b)
+pub other_there : (o p : Objects) (a b : Addr) (m : Monitor) → p ≡ with_cell (store_monitor m) o a → is_other_in_heap o a ≡ true → option_map (λ (c : Cell). c.other) (object_cell o a) ≡ Some (Some b) → IsSome (object_cell p b)
 other_there o p a b m is there other =
     subst (λ (x : Objects). IsSome (object_cell x b)) (sym is)
     (change-there (store_monitor m) (λ c. refl) o.spaces a b (lies_there o a b there (other_decoded (object_cell o a) (Some b) other)))

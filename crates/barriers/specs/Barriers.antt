@@ -34,19 +34,19 @@ forward_value o (Native n) = Native n
 -- ---- what is there
 
 -- an integer, or a reference of what is there
-abbrev pub is_value_there : Objects → Value → Bool
-is_value_there o (Ref a) = is_there o.spaces a
-is_value_there o (Int32 n) = true
-is_value_there o (Int64 n) = true
-is_value_there o (Native n) = true
+abbrev pub is_value_in_heap : Objects → Value → Bool
+is_value_in_heap o (Ref a) = is_there o.spaces a
+is_value_in_heap o (Int32 n) = true
+is_value_in_heap o (Int64 n) = true
+is_value_in_heap o (Native n) = true
 
 -- the other copy of an object, where it has one, has a slot of this number too
-abbrev pub is_other_alike : Objects → Addr → ℕ → Bool
-is_other_alike o a slot = option_map_or (λ b. nat_lt slot (length (object_slots o b))) (other_of (object_cell o a)) true
+abbrev pub other_has_slot : Objects → Addr → ℕ → Bool
+other_has_slot o a slot = option_map_or (λ b. nat_lt slot (length (object_slots o b))) (other_of (object_cell o a)) true
 
 -- the other copy of an object lies there, where it has one
-abbrev pub is_other_there : Objects → Addr → Bool
-is_other_there o a = option_map_or (λ b. is_some (object_cell o b)) (other_of (object_cell o a)) true
+abbrev pub is_other_in_heap : Objects → Addr → Bool
+is_other_in_heap o a = option_map_or (λ b. is_some (object_cell o b)) (other_of (object_cell o a)) true
 
 -- ---- both copies
 
@@ -77,12 +77,12 @@ stored_value Reclaim o a slot v = with_slot o a slot (value_word v)
 -- whether it can be stored there: a mark takes an open cycle and a value of this heap, and both copies have the slot where both are changed
 abbrev pub is_storable : Phase → Objects → Addr → ℕ → Value → Bool
 is_storable Idle o a slot v = true
-is_storable Mark o a slot v = o.spaces.is_open && is_value_there o v
+is_storable Mark o a slot v = o.spaces.is_open && is_value_in_heap o v
 is_storable Allocate o a slot v = true
-is_storable Copy o a slot v = is_value_there o v && is_other_alike o a slot
-is_storable PreFlip o a slot v = is_value_there o v && is_other_alike o a slot
-is_storable HeapFlip o a slot v = is_value_there o v && is_other_alike o a slot
-is_storable ThreadFlip o a slot v = is_other_alike o a slot
+is_storable Copy o a slot v = is_value_in_heap o v && other_has_slot o a slot
+is_storable PreFlip o a slot v = is_value_in_heap o v && other_has_slot o a slot
+is_storable HeapFlip o a slot v = is_value_in_heap o v && other_has_slot o a slot
+is_storable ThreadFlip o a slot v = other_has_slot o a slot
 is_storable Reclaim o a slot v = true
 
 -- a reference
@@ -102,7 +102,7 @@ stored_int phase o a slot word =
 
 -- whether it can be stored there: both copies have the slot where both are changed
 abbrev pub is_word_storable : Phase → Objects → Addr → ℕ → Bool
-is_word_storable phase o a slot = if reaches_both phase then is_other_alike o a slot else true
+is_word_storable phase o a slot = if reaches_both phase then other_has_slot o a slot else true
 
 -- the monitor of an object or a literal, which has no other copy
 abbrev pub stored_monitor : Phase → Objects → Addr → Monitor → Objects
@@ -111,7 +111,7 @@ stored_monitor phase o a m =
 
 -- whether it can be stored there: the other copy is there where both are changed
 abbrev pub is_monitor_storable : Phase → Objects → Addr → Bool
-is_monitor_storable phase o a = if reaches_both phase then is_other_there o a else true
+is_monitor_storable phase o a = if reaches_both phase then is_other_in_heap o a else true
 
 -- ---- static fields
 
@@ -129,11 +129,11 @@ stored_static Reclaim o statics number v = (o, slice_set statics number v)
 -- whether it can be stored: a mark takes an open cycle, and a mark and a forward a value of this heap
 abbrev pub is_static_storable : Phase → Objects → Value → Bool
 is_static_storable Idle o v = true
-is_static_storable Mark o v = o.spaces.is_open && is_value_there o v
+is_static_storable Mark o v = o.spaces.is_open && is_value_in_heap o v
 is_static_storable Allocate o v = true
 is_static_storable Copy o v = true
-is_static_storable PreFlip o v = is_value_there o v
-is_static_storable HeapFlip o v = is_value_there o v
+is_static_storable PreFlip o v = is_value_in_heap o v
+is_static_storable HeapFlip o v = is_value_in_heap o v
 is_static_storable ThreadFlip o v = true
 is_static_storable Reclaim o v = true
 
@@ -144,8 +144,8 @@ abbrev pub object_born : Phase → Objects → Kind → ℕ → Objects × Optio
 object_born phase o kind slots = with_birth phase o kind slots
 
 -- whether a thread in this phase can bear: some phases are of an open cycle alone
-abbrev pub can_bear : Phase → Objects → Bool
-can_bear phase o = if is_within_cycle phase then o.spaces.is_open else true
+abbrev pub can_allocate : Phase → Objects → Bool
+can_allocate phase o = if is_within_cycle phase then o.spaces.is_open else true
 
 -- ---- references
 

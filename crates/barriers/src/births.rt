@@ -1,7 +1,7 @@
 //! Births of objects.
 
 ghost use Rattle.std.specs.Prelude.{◌≡◌, ◌≤◌, ◌^◌, true};
-ghost use Rattle.barriers.specs.Barriers.{can_bear, object_born};
+ghost use Rattle.barriers.specs.Barriers.{can_allocate, object_born};
 
 use cil_model::phases::Phase;
 use object_memory::{Addr, Heap, Kind};
@@ -10,7 +10,7 @@ use object_memory::{Addr, Heap, Kind};
 /// `Idle` and `Mark`, in both from `Allocate` to `HeapFlip`, with the address of the old copy, and then in the new one alone. None exactly
 /// where it exceeds the room; nothing is changed then.
 pub fn birth(heap: &mut Heap, phase: Phase, kind: Kind, slots: u64) -> Option<Addr>
-    requires { can_bear phase heap.old ≡ true }
+    requires { can_allocate phase heap.old ≡ true }
     ensures { (heap.new, result) ≡ object_born phase heap.old kind slots }
 {
     match u32::try_from(slots) {

@@ -4,7 +4,7 @@ ghost use Rattle.std.specs.Prelude.{◌≡◌, ◌<◌, true, IsSome, length};
 ghost use Rattle.object_memory.specs.Cells.{store_slot};
 ghost use Rattle.object_memory.specs.declared.values.Value.TheVariants.{Ref};
 ghost use Rattle.object_memory.specs.Objects.{monitor_at, object_cell, object_slots};
-ghost use Rattle.barriers.specs.Barriers.{is_other_alike, is_other_there, is_static_storable, is_storable, is_value_there, is_word_storable, is_monitor_storable, forward_value, reaches_both, stored_int, stored_monitor, stored_ref, stored_static, stored_value, with_both, with_both_monitors, with_marked};
+ghost use Rattle.barriers.specs.Barriers.{other_has_slot, is_other_in_heap, is_static_storable, is_storable, is_value_in_heap, is_word_storable, is_monitor_storable, forward_value, reaches_both, stored_int, stored_monitor, stored_ref, stored_static, stored_value, with_both, with_both_monitors, with_marked};
 
 use cil_model::phases::Phase;
 use object_memory::{Addr, Heap, Monitor, Value};
@@ -122,7 +122,7 @@ fn reaches_both(phase: Phase) -> bool
 #[cold]
 pub fn mark(heap: &mut Heap, value: Value)
     requires open { heap.old.spaces.is_open ≡ true }
-    requires there { is_value_there heap.old value ≡ true }
+    requires there { is_value_in_heap heap.old value ≡ true }
     ensures { heap.new ≡ with_marked heap.old value }
 {
     match value {
@@ -136,7 +136,7 @@ pub fn mark(heap: &mut Heap, value: Value)
 /// The reference of the other copy, in place of an old object's. Any other value is itself.
 #[cold]
 pub fn forward(heap: &Heap, value: Value) -> Value
-    requires { is_value_there heap.now value ≡ true }
+    requires { is_value_in_heap heap.now value ≡ true }
     ensures { result ≡ forward_value heap.now value }
 {
     match value {
@@ -149,7 +149,7 @@ pub fn forward(heap: &Heap, value: Value) -> Value
 #[cold]
 fn set_both_slots(heap: &mut Heap, object: Addr, slot: u32, old: u64, new: u64)
     requires inside { slot < length (object_slots heap.old object) }
-    requires copies { is_other_alike heap.old object slot ≡ true }
+    requires copies { other_has_slot heap.old object slot ≡ true }
     ensures { heap.new ≡ with_both (store_slot slot old) (store_slot slot new) heap.old object }
 {
     let copy = heap.other(object);
@@ -170,7 +170,7 @@ fn set_both_slots(heap: &mut Heap, object: Addr, slot: u32, old: u64, new: u64)
 #[cold]
 fn set_both_monitors(heap: &mut Heap, object: Addr, monitor: Monitor)
     requires there { IsSome (object_cell heap.old object) }
-    requires copies { is_other_there heap.old object ≡ true }
+    requires copies { is_other_in_heap heap.old object ≡ true }
     ensures { heap.new ≡ with_both_monitors heap.old object monitor }
 {
     let copy = heap.other(object);

@@ -1,4 +1,4 @@
--- The names that the walks of the hosts' calls cite, passed on from one place. Declares nothing.
+-- The names that the walks of the hosts' calls cite, re-exported by one module. Declares nothing.
 pub use Rattle.std.proofs.Common.{◌<◌, ◌^◌, ℕ, List, [], ◌∷◌, ◌++◌, length, refl, w8, w32, w64}
 pub use Rattle.std.proofs.raw_atomic.Walks.{proved}
 pub use base.Fraction.{full_share}
@@ -34,6 +34,6 @@ pub use Rattle.cilvm_c.specs.declared.limits.HostLimits.{HostLimits}
 pub use Rattle.cilvm_c.specs.contracts.sessions.Session.{the_row as session}
 pub use Rattle.cilvm_c.specs.Handles.{is_held}
 pub use Rattle.cilvm_c.specs.InitialStates.{IsInitialBy}
-pub use Rattle.cilvm_c.specs.Sessions.{AreUsed, Held, IsClosing, IsLiveCount, IsPrintedRead, IsReasonRead, IsStatus, IsWait}
+pub use Rattle.cilvm_c.specs.Sessions.{AreUsed, SessionState, IsClosing, IsLiveCount, IsPrintedRead, IsReasonRead, IsStatus, IsWait}
 pub use Rattle.cilvm_c.specs.Steps.{HasDoneOne, HasRunText, HasStepped}
 pub use Rattle.cilvm_c.proofs.Loans.{lent, lends, comes_back}

@@ -16,13 +16,13 @@ use Rattle.cilvm_c.specs.contracts.hosts.cilvm_read
 use Rattle.cilvm_c.specs.contracts.hosts.live
 use Rattle.cilvm_c.specs.contracts.hosts.step
 use Rattle.cilvm_c.specs.contracts.hosts.read
-use Rattle.cilvm_c.proofs.Names.{◌<◌, ◌^◌, ℕ, List, [], ◌∷◌, ◌++◌, length, refl, w8, w32, w64, proved, full_share, id⊢, Lft, Share, ftrue, flft, named, vptr, WpFn, fact, tables, ‵, raw, ◌⊛◌, some, later, prop, ◌$◌, ◌∵◌, !, qed, done, move, keep, drop, use1, use2, split, join, fsplit, fjoin, feq_l, regoal, suffices, group, agg, sub, whole, enter, of_opd, addr, from, fld, hop, stop, no_more, and_then, returns, alloc_all, pass_all, free_all, look_at, look_in_at, get, get_in, through, sets, lands_as, u8, u32, usize, yes, uint_vals, uint_Tells, uint_Makes, uint_Lawful, owns, Ptr, RawPtr, block_ptr, in_a_block, rawptr_vals, rawptr_Tells, MutBor, plain, MutSlice, Room, mut_slice_vals, mut_slice_Tells, nothing, owned, calls_at, lasts, on_entry, triple_of, framed, Stays, walk_of, stay_dropped, gave_slice, Goes-dropped, Goes-gave_slice, ends_at, session, is_held, Held, lent, lends, comes_back}
+use Rattle.cilvm_c.proofs.Names.{◌<◌, ◌^◌, ℕ, List, [], ◌∷◌, ◌++◌, length, refl, w8, w32, w64, proved, full_share, id⊢, Lft, Share, ftrue, flft, named, vptr, WpFn, fact, tables, ‵, raw, ◌⊛◌, some, later, prop, ◌$◌, ◌∵◌, !, qed, done, move, keep, drop, use1, use2, split, join, fsplit, fjoin, feq_l, regoal, suffices, group, agg, sub, whole, enter, of_opd, addr, from, fld, hop, stop, no_more, and_then, returns, alloc_all, pass_all, free_all, look_at, look_in_at, get, get_in, through, sets, lands_as, u8, u32, usize, yes, uint_vals, uint_Tells, uint_Makes, uint_Lawful, owns, Ptr, RawPtr, block_ptr, in_a_block, rawptr_vals, rawptr_Tells, MutBor, plain, MutSlice, Room, mut_slice_vals, mut_slice_Tells, nothing, owned, calls_at, lasts, on_entry, triple_of, framed, Stays, walk_of, stay_dropped, gave_slice, Goes-dropped, Goes-gave_slice, ends_at, session, is_held, SessionState, lent, lends, comes_back}
 
 -- ---- a call that is given the session alone
 
-module _ {M : Type 1} (𝓤 : Ura M) (𝓛 : Logic 𝓤) (𝓜 : Model 𝓤 𝓛.H) (𝓡 : Running 𝓤 𝓛.H 𝓜) (P : Held → ℕ → Held → Type 0) where
+module _ {M : Type 1} (𝓤 : Ura M) (𝓛 : Logic 𝓤) (𝓜 : Model 𝓤 𝓛.H) (𝓡 : Running 𝓤 𝓛.H 𝓜) (P : SessionState → ℕ → SessionState → Type 0) where
   abbrev bare_call_clauses : Clauses 𝓤 cilvm_live.ended
-  bare_call_clauses κs a = record { ghost = Held; requires = λ it. sem 𝓛 (is_held session a.0 it); ensures = λ it u ends. sem 𝓛 (such_is_held session a.0 (P it u)) }
+  bare_call_clauses κs a = record { ghost = SessionState; requires = λ it. sem 𝓛 (is_held session a.0 it); ensures = λ it u ends. sem 𝓛 (such_is_held session a.0 (P it u)) }
 
   -- those of the safe function
   abbrev bare_call_lent : Clauses 𝓤 live.ended
@@ -66,9 +66,9 @@ module _ {M : Type 1} (𝓤 : Ura M) (𝓛 : Logic 𝓤) (𝓜 : Model 𝓤 𝓛
       nothing ! $ move ! (1 ∷ 0 ∷ []) $ use2 𝓛 (raw (G.pre z)) (id⊢ 𝓤 _) $
       calls_at ! (framed 𝓤 𝓛.H 𝓜 𝓣) G met z
       (and_then ! (get ! refl) (no_more !)) (λ v.
-      let Q : ℕ → Unit {0} → Held → Type 0 = λ u last after. P it u after in
+      let Q : ℕ → Unit {0} → SessionState → Type 0 = λ u last after. P it u after in
       use1 𝓛 (later (some (λ (u : ℕ). ((‵ (flft (α ∷ []) full_share) ⊛ ‵ ftrue) ⊛ ‵ (u32.own_val u (v ∷ []))) ⊛
-      some (λ (ws : Held × Unit {0}). ‵ (lasts live.ended z.0.0 z.0.3 ws) ⊛ raw (fact 𝓤 (Q u ws.1 ws.0)))))) (id⊢ 𝓤 _) $
+      some (λ (ws : SessionState × Unit {0}). ‵ (lasts live.ended z.0.0 z.0.3 ws) ⊛ raw (fact 𝓤 (Q u ws.1 ws.0)))))) (id⊢ 𝓤 _) $
       comes_back ! tt b o u32 Q (λ u ws is. lands_as ! refl refl ((uint_Lawful 𝓛 w32).typed u _ is).0 $
       returns ! (look_at ! 0 refl) $ free_all ! refl $ keep ! (0 ∷ 1 ∷ []) $
       suffices ! _ (ends_at 𝓛 cilvm_live.ended hs c (y (block_ptr b o)) v u (tt, tt) (tt, tt)) $
@@ -76,9 +76,9 @@ module _ {M : Type 1} (𝓤 : Ura M) (𝓛 : Logic 𝓤) (𝓜 : Model 𝓤 𝓛
 
 -- ---- a call that is given the number of a thread
 
-module _ {M : Type 1} (𝓤 : Ura M) (𝓛 : Logic 𝓤) (𝓜 : Model 𝓤 𝓛.H) (𝓡 : Running 𝓤 𝓛.H 𝓜) (P : ℕ → Held → ℕ → Held → Type 0) where
+module _ {M : Type 1} (𝓤 : Ura M) (𝓛 : Logic 𝓤) (𝓜 : Model 𝓤 𝓛.H) (𝓡 : Running 𝓤 𝓛.H 𝓜) (P : ℕ → SessionState → ℕ → SessionState → Type 0) where
   abbrev thread_call_clauses : Clauses 𝓤 cilvm_step.ended
-  thread_call_clauses κs a = record { ghost = Held; requires = λ it. sem 𝓛 (is_held session a.0 it); ensures = λ it u ends. sem 𝓛 (such_is_held session a.0 (P a.1.0 it u)) }
+  thread_call_clauses κs a = record { ghost = SessionState; requires = λ it. sem 𝓛 (is_held session a.0 it); ensures = λ it u ends. sem 𝓛 (such_is_held session a.0 (P a.1.0 it u)) }
 
   -- those of the safe function
   abbrev thread_call_lent : Clauses 𝓤 step.ended
@@ -123,9 +123,9 @@ module _ {M : Type 1} (𝓤 : Ura M) (𝓛 : Logic 𝓤) (𝓜 : Model 𝓤 𝓛
       nothing ! $ move ! (1 ∷ 0 ∷ []) $ use2 𝓛 (raw (G.pre z)) (id⊢ 𝓤 _) $
       calls_at ! (framed 𝓤 𝓛.H 𝓜 𝓣) G met z
       (and_then ! (get ! refl) (and_then ! (get ! refl) (no_more !))) (λ v.
-      let Q : ℕ → (Unit {0} × Unit {0}) → Held → Type 0 = λ u last after. P thread it u after in
+      let Q : ℕ → (Unit {0} × Unit {0}) → SessionState → Type 0 = λ u last after. P thread it u after in
       use1 𝓛 (later (some (λ (u : ℕ). ((‵ (flft (α ∷ []) full_share) ⊛ ‵ ftrue) ⊛ ‵ (u32.own_val u (v ∷ []))) ⊛
-      some (λ (ws : Held × (Unit {0} × Unit {0})). ‵ (lasts step.ended z.0.0 z.0.3 ws) ⊛ raw (fact 𝓤 (Q u ws.1 ws.0)))))) (id⊢ 𝓤 _) $
+      some (λ (ws : SessionState × (Unit {0} × Unit {0})). ‵ (lasts step.ended z.0.0 z.0.3 ws) ⊛ raw (fact 𝓤 (Q u ws.1 ws.0)))))) (id⊢ 𝓤 _) $
       comes_back ! tt b o u32 Q (λ u ws is. lands_as ! refl refl ((uint_Lawful 𝓛 w32).typed u _ is).0 $
       returns ! (look_at ! 0 refl) $ free_all ! refl $ keep ! (0 ∷ 1 ∷ []) $
       suffices ! _ (ends_at 𝓛 cilvm_step.ended hs c (y (block_ptr b o)) v u (tt, (tt, tt)) (tt, (tt, tt))) $
@@ -133,9 +133,9 @@ module _ {M : Type 1} (𝓤 : Ura M) (𝓛 : Logic 𝓤) (𝓜 : Model 𝓤 𝓛
 
 -- ---- a call that copies bytes from an index on to a buffer
 
-module _ {M : Type 1} (𝓤 : Ura M) (𝓛 : Logic 𝓤) (𝓜 : Model 𝓤 𝓛.H) (𝓡 : Running 𝓤 𝓛.H 𝓜) (P : ℕ → Held → List ℕ → ℕ → Held → Type 0) where
+module _ {M : Type 1} (𝓤 : Ura M) (𝓛 : Logic 𝓤) (𝓜 : Model 𝓤 𝓛.H) (𝓡 : Running 𝓤 𝓛.H 𝓜) (P : ℕ → SessionState → List ℕ → ℕ → SessionState → Type 0) where
   abbrev read_call_clauses : Clauses 𝓤 cilvm_read.ended
-  read_call_clauses κs a = record { ghost = Held; requires = λ it. sem 𝓛 (is_held session a.0 it); ensures = λ it u ends. sem 𝓛 (such_is_held session a.0 (P a.1.0 it ends.1.1.0.now u)) }
+  read_call_clauses κs a = record { ghost = SessionState; requires = λ it. sem 𝓛 (is_held session a.0 it); ensures = λ it u ends. sem 𝓛 (such_is_held session a.0 (P a.1.0 it ends.1.1.0.now u)) }
 
   -- those of the safe function
   abbrev read_call_lent : Clauses 𝓤 read.ended
@@ -188,9 +188,9 @@ module _ {M : Type 1} (𝓤 : Ura M) (𝓛 : Logic 𝓤) (𝓜 : Model 𝓤 𝓛
       nothing ! $ move ! (1 ∷ 0 ∷ []) $ use2 𝓛 (raw (G.pre z)) (id⊢ 𝓤 _) $
       calls_at ! (framed 𝓤 𝓛.H 𝓜 𝓣) G met z
       (and_then ! (get ! refl) (and_then ! (get ! refl) (and_then ! (get ! refl) (no_more !)))) (λ v.
-      let Q : ℕ → (Unit {0} × (List ℕ × Unit {0})) → Held → Type 0 = λ u last after. P from_byte it last.1.0 u after in
+      let Q : ℕ → (Unit {0} × (List ℕ × Unit {0})) → SessionState → Type 0 = λ u last after. P from_byte it last.1.0 u after in
       use1 𝓛 (later (some (λ (u : ℕ). ((‵ (flft (α ∷ []) full_share) ⊛ (‵ (flft κ0 q0) ⊛ ‵ ftrue)) ⊛ ‵ (usize.own_val u (v ∷ []))) ⊛
-      some (λ (ws : Held × (Unit {0} × (List ℕ × Unit {0}))). ‵ (lasts read.ended z.0.0 z.0.3 ws) ⊛ raw (fact 𝓤 (Q u ws.1 ws.0)))))) (id⊢ 𝓤 _) $
+      some (λ (ws : SessionState × (Unit {0} × (List ℕ × Unit {0}))). ‵ (lasts read.ended z.0.0 z.0.3 ws) ⊛ raw (fact 𝓤 (Q u ws.1 ws.0)))))) (id⊢ 𝓤 _) $
       comes_back ! tt b o usize Q (λ u ws is. lands_as ! refl refl ((uint_Lawful 𝓛 w64).typed u _ is).0 $
       -- [the result; the session; the other last values; the caller's tokens]
       move ! (2 ∷ []) $ fsplit ! $ move ! (1 ∷ []) $ fsplit ! $ fsplit ! $ fsplit ! $ move ! (1 ∷ []) $ feq_l ! (λ same. fjoin ! $

@@ -11,13 +11,13 @@ use Rattle.cilvm_c.specs.Codes.{number_of, status_code, wait_code}
 use Rattle.cilvm_c.specs.declared.codes.Code.TheVariants.{Closed}
 
 -- its machine, none where it is closed; the bytes that the program may print; and the text that explains the last refusal
-pub record Held : Type 0 where
+pub record SessionState : Type 0 where
   pub machine : Option MachineState
   pub most_printed : ℕ
   pub reason : List ℕ
 
 -- the same with another machine
-abbrev pub with_machine : Held → MachineState → Held
+abbrev pub with_machine : SessionState → MachineState → SessionState
 with_machine h c = record { machine = Some c; most_printed = h.most_printed; reason = h.reason }
 
 -- ---- what is read: the session is as before
@@ -31,10 +31,10 @@ printed_by (Some c) = c.printed
 abbrev pub IsRead : List ℕ → ℕ → List ℕ → ℕ → Type 0
 IsRead bytes from new n = (n ≤ length new) × (take n new ≡ take n (drop from bytes)) × ((n ≡ length new) ⊎ (n ≡ length (drop from bytes)))
 
-abbrev pub IsPrintedRead : Held → ℕ → List ℕ → ℕ → Held → Type 0
+abbrev pub IsPrintedRead : SessionState → ℕ → List ℕ → ℕ → SessionState → Type 0
 IsPrintedRead h from new n after = (after ≡ h) × IsRead (printed_by h.machine) from new n
 
-abbrev pub IsReasonRead : Held → ℕ → List ℕ → ℕ → Held → Type 0
+abbrev pub IsReasonRead : SessionState → ℕ → List ℕ → ℕ → SessionState → Type 0
 IsReasonRead h from new n after = (after ≡ h) × IsRead h.reason from new n
 
 -- the number of the state of a thread
@@ -42,7 +42,7 @@ abbrev pub status_of : Option MachineState → ℕ → ℕ
 status_of None t = number_of Closed
 status_of (Some c) t = number_of (status_code (end_at c.threads t) (is_live_at c.threads t))
 
-abbrev pub IsStatus : Held → ℕ → ℕ → Held → Type 0
+abbrev pub IsStatus : SessionState → ℕ → ℕ → SessionState → Type 0
 IsStatus h t code after = (after ≡ h) × (code ≡ status_of h.machine t)
 
 -- the number of whom a thread waits for
@@ -50,7 +50,7 @@ abbrev pub wait_of : Option MachineState → ℕ → ℕ
 wait_of None t = number_of Closed
 wait_of (Some c) t = wait_code (wait_at c t)
 
-abbrev pub IsWait : Held → ℕ → ℕ → Held → Type 0
+abbrev pub IsWait : SessionState → ℕ → ℕ → SessionState → Type 0
 IsWait h t code after = (after ≡ h) × (code ≡ wait_of h.machine t)
 
 -- how many threads are live; none of a closed session
@@ -58,7 +58,7 @@ abbrev pub live_in : Option MachineState → ℕ
 live_in None = 0
 live_in (Some c) = count_by is_live c.threads
 
-abbrev pub IsLiveCount : Held → ℕ → Held → Type 0
+abbrev pub IsLiveCount : SessionState → ℕ → SessionState → Type 0
 IsLiveCount h count after = (after ≡ h) × (count ≡ live_in h.machine)
 
 -- the words in use of the old space, or the only one, and of the new one; none of a closed session
@@ -66,11 +66,11 @@ abbrev pub used_in : Option MachineState → ℕ × ℕ
 used_in None = (0, 0)
 used_in (Some c) = (used_space c.objects, used_words c.objects.spaces.new.cells)
 
-abbrev pub AreUsed : Held → ℕ → ℕ → Held → Type 0
+abbrev pub AreUsed : SessionState → ℕ → ℕ → SessionState → Type 0
 AreUsed h old_words new_words after = (after ≡ h) × ((old_words, new_words) ≡ used_in h.machine)
 
 -- ---- the end
 
 -- it is closed, with no refusal to explain
-abbrev pub IsClosing : ℕ → Held → Type 0
+abbrev pub IsClosing : ℕ → SessionState → Type 0
 IsClosing code after = (code ≡ 0) × (after.machine ≡ None) × (after.reason ≡ [])

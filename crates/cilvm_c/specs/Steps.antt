@@ -12,7 +12,7 @@ use Rattle.schedule_text.specs.Items.{words}
 use Rattle.schedule_text.specs.Readings.{AreRead, IsFirstFault}
 use Rattle.schedule_text.specs.declared.errors.ScheduleError.{ScheduleError}
 use Rattle.cilvm_c.specs.Codes.{has_ran, number_of, report_code, schedule_code}
-use Rattle.cilvm_c.specs.Sessions.{Held, with_machine}
+use Rattle.cilvm_c.specs.Sessions.{SessionState, with_machine}
 use Rattle.cilvm_c.specs.declared.codes.Code.{Code}
 use Rattle.cilvm_c.specs.declared.codes.Code.TheVariants.{Ran, Full, Closed, NoMemory}
 use Rattle.cilvm_c.specs.declared.running.Stop.{Stop}
@@ -35,12 +35,12 @@ Acts c most e code new = IsDone c most e code new ⊎ ((new ≡ c) × IsNotDone 
 abbrev pub ActsBy : MachineState → ℕ → Event → ℕ → MachineState → Type 0
 ActsBy c most e number new = (code : Code) × (number ≡ number_of code) × Acts c most e code new
 
-abbrev pub HasDoneOneBy : Event → Held → Option MachineState → ℕ → Held → Type 0
+abbrev pub HasDoneOneBy : Event → SessionState → Option MachineState → ℕ → SessionState → Type 0
 HasDoneOneBy e h None code new = (code ≡ number_of Closed) × (new ≡ h)
 HasDoneOneBy e h (Some c) code new = (answer : Code) × (after : MachineState) × (code ≡ number_of answer) × (new ≡ with_machine h after) × Acts c h.most_printed e answer after
 
 -- a session has its machine do an event; a closed one stays so
-abbrev pub HasDoneOne : Event → Held → ℕ → Held → Type 0
+abbrev pub HasDoneOne : Event → SessionState → ℕ → SessionState → Type 0
 HasDoneOne e h = HasDoneOneBy e h h.machine
 
 -- ---- steps of a thread
@@ -62,13 +62,13 @@ MakesSteps c printed t most done code after =
 abbrev pub MakesStepsBy : MachineState → ℕ → ℕ → ℕ → ℕ → ℕ → MachineState → Type 0
 MakesStepsBy c printed t most done number after = (code : Code) × (number ≡ number_of code) × MakesSteps c printed t most done code after
 
-abbrev pub HasSteppedBy : ℕ → Held → Option MachineState → ℕ → ℕ → ℕ → Held → Type 0
+abbrev pub HasSteppedBy : ℕ → SessionState → Option MachineState → ℕ → ℕ → ℕ → SessionState → Type 0
 HasSteppedBy t h None most done code new = (code ≡ number_of Closed) × (done ≡ 0) × (new ≡ h)
 HasSteppedBy t h (Some c) most done code new =
     (answer : Code) × (after : MachineState) × (code ≡ number_of answer) × (new ≡ with_machine h after) × MakesSteps c h.most_printed t most done answer after
 
 -- a session has its machine make steps of a thread
-abbrev pub HasStepped : ℕ → Held → ℕ → ℕ → ℕ → Held → Type 0
+abbrev pub HasStepped : ℕ → SessionState → ℕ → ℕ → ℕ → SessionState → Type 0
 HasStepped t h = HasSteppedBy t h h.machine
 
 -- ---- a schedule
@@ -89,7 +89,7 @@ IsRunOn c printed events done code after =
     ⊎ IsStopped c printed events (record { done = done; code = code }) after
 
 -- the text has a fault: the code is its number, or that of out of memory, and nothing is done
-abbrev pub IsUnread : List ℕ → Held → ℕ → ℕ → Held → Type 0
+abbrev pub IsUnread : List ℕ → SessionState → ℕ → ℕ → SessionState → Type 0
 IsUnread text h done code new =
     (error : ScheduleError) × IsFirstFault (words text) error × (code ≡ schedule_code error) × (done ≡ 0) × (new.machine ≡ h.machine) × (new.most_printed ≡ h.most_printed)
 
@@ -97,12 +97,12 @@ IsUnread text h done code new =
 abbrev pub IsTextRun : MachineState → ℕ → List ℕ → ℕ → Code → MachineState → Type 0
 IsTextRun c printed text done code after = (events : List Event) × AreRead (words text) events × IsRunOn c printed events done code after
 
-abbrev pub HasRunBy : List ℕ → Held → Option MachineState → ℕ → ℕ → Held → Type 0
+abbrev pub HasRunBy : List ℕ → SessionState → Option MachineState → ℕ → ℕ → SessionState → Type 0
 HasRunBy text h None done code new = (code ≡ number_of Closed) × (done ≡ 0) × (new ≡ h)
 HasRunBy text h (Some c) done code new =
     IsUnread text h done code new
     ⊎ ((answer : Code) × (after : MachineState) × (code ≡ number_of answer) × (new ≡ with_machine h after) × IsTextRun c h.most_printed text done answer after)
 
 -- a session has its machine do the events of a schedule's text
-abbrev pub HasRunText : List ℕ → Held → ℕ → ℕ → Held → Type 0
+abbrev pub HasRunText : List ℕ → SessionState → ℕ → ℕ → SessionState → Type 0
 HasRunText text h = HasRunBy text h h.machine

@@ -5,7 +5,7 @@ ghost use types.Logic.{sem};
 ghost use Rattle.cil_model.specs.declared.events.Event.TheVariants.{Step, Ack, Gc};
 ghost use Rattle.cilvm_c.specs.Handles.{is_held, such_is_held};
 ghost use Rattle.cilvm_c.specs.InitialStates.{IsChecked, IsInitialBy};
-ghost use Rattle.cilvm_c.specs.Sessions.{AreUsed, Held, IsClosing, IsLiveCount, IsPrintedRead, IsReasonRead, IsStatus, IsWait};
+ghost use Rattle.cilvm_c.specs.Sessions.{AreUsed, SessionState, IsClosing, IsLiveCount, IsPrintedRead, IsReasonRead, IsStatus, IsWait};
 ghost use Rattle.cilvm_c.specs.Steps.{HasDoneOne, HasRunText, HasStepped};
 ghost use Rattle.cilvm_c.specs.contracts.sessions.Session as row;
 
@@ -60,7 +60,7 @@ fn open(session: &mut Session, source: &[u8], limits: &HostLimits) -> u32
 /// why: 255 where memory ran out, or the number of the refusal.
 #[unsafe(no_mangle)]
 pub unsafe extern "C" fn cilvm_open(at: *mut u8, source: &[u8], limits: &HostLimits) -> u32
-    ghost held: { Held }
+    ghost held: { SessionState }
     requires* { sem 𝓛 (is_held row.the_row at held) }
     ensures* { sem 𝓛 (such_is_held row.the_row at (IsInitialBy source.now limits.now result)) }
 {
@@ -77,7 +77,7 @@ fn why(session: &mut Session, from: usize, to: &mut [u8]) -> usize
 /// Copies the text that explains the last refusal, from this byte on, up to the length of the buffer, and returns the number of bytes copied.
 #[unsafe(no_mangle)]
 pub unsafe extern "C" fn cilvm_why(at: *mut u8, from: usize, to: &mut [u8]) -> usize
-    ghost held: { Held }
+    ghost held: { SessionState }
     requires* { sem 𝓛 (is_held row.the_row at held) }
     ensures* { sem 𝓛 (such_is_held row.the_row at (IsReasonRead held from to.new result)) }
 {
@@ -94,7 +94,7 @@ fn step(session: &mut Session, thread: u8) -> u32
 /// Has a thread make a step, and returns the code of its report.
 #[unsafe(no_mangle)]
 pub unsafe extern "C" fn cilvm_step(at: *mut u8, thread: u8) -> u32
-    ghost held: { Held }
+    ghost held: { SessionState }
     requires* { sem 𝓛 (is_held row.the_row at held) }
     ensures* { sem 𝓛 (such_is_held row.the_row at (HasDoneOne (Step thread) held result)) }
 {
@@ -105,7 +105,7 @@ pub unsafe extern "C" fn cilvm_step(at: *mut u8, thread: u8) -> u32
 /// Has a thread make steps until one does not report that it ran, at most `most`, and returns the last code. `done` says how many were made.
 #[unsafe(no_mangle)]
 pub unsafe extern "C" fn cilvm_steps(at: *mut u8, thread: u8, most: u32, done: &mut u32) -> u32
-    ghost held: { Held }
+    ghost held: { SessionState }
     requires* { sem 𝓛 (is_held row.the_row at held) }
     ensures* { sem 𝓛 (such_is_held row.the_row at (HasStepped thread held most done.new result)) }
 {
@@ -122,7 +122,7 @@ fn ack(session: &mut Session, thread: u8) -> u32
 /// Has a thread acknowledge what the collector posted, and returns the code of the report.
 #[unsafe(no_mangle)]
 pub unsafe extern "C" fn cilvm_ack(at: *mut u8, thread: u8) -> u32
-    ghost held: { Held }
+    ghost held: { SessionState }
     requires* { sem 𝓛 (is_held row.the_row at held) }
     ensures* { sem 𝓛 (such_is_held row.the_row at (HasDoneOne (Ack thread) held result)) }
 {
@@ -139,7 +139,7 @@ fn gc(session: &mut Session) -> u32
 /// Has the collector do an event, and returns the code of its report.
 #[unsafe(no_mangle)]
 pub unsafe extern "C" fn cilvm_gc(at: *mut u8) -> u32
-    ghost held: { Held }
+    ghost held: { SessionState }
     requires* { sem 𝓛 (is_held row.the_row at held) }
     ensures* { sem 𝓛 (such_is_held row.the_row at (HasDoneOne Gc held result)) }
 {
@@ -150,7 +150,7 @@ pub unsafe extern "C" fn cilvm_gc(at: *mut u8) -> u32
 /// Does the events of a schedule's text, and returns 0, or why it stopped. `done` says how many were done: none where the text is refused.
 #[unsafe(no_mangle)]
 pub unsafe extern "C" fn cilvm_run(at: *mut u8, text: &[u8], done: &mut u64) -> u32
-    ghost held: { Held }
+    ghost held: { SessionState }
     requires* { sem 𝓛 (is_held row.the_row at held) }
     ensures* { sem 𝓛 (such_is_held row.the_row at (HasRunText text.now held done.new result)) }
 {
@@ -167,7 +167,7 @@ fn read(session: &mut Session, from: usize, to: &mut [u8]) -> usize
 /// Copies what was printed, from this byte on, up to the length of the buffer, and returns the number of bytes copied.
 #[unsafe(no_mangle)]
 pub unsafe extern "C" fn cilvm_read(at: *mut u8, from: usize, to: &mut [u8]) -> usize
-    ghost held: { Held }
+    ghost held: { SessionState }
     requires* { sem 𝓛 (is_held row.the_row at held) }
     ensures* { sem 𝓛 (such_is_held row.the_row at (IsPrintedRead held from to.new result)) }
 {
@@ -184,7 +184,7 @@ fn end_of(session: &mut Session, thread: u8) -> u32
 /// The state of a thread: 0 where it is live, 2 where it was never started, and otherwise the code of its end.
 #[unsafe(no_mangle)]
 pub unsafe extern "C" fn cilvm_end_of(at: *mut u8, thread: u8) -> u32
-    ghost held: { Held }
+    ghost held: { SessionState }
     requires* { sem 𝓛 (is_held row.the_row at held) }
     ensures* { sem 𝓛 (such_is_held row.the_row at (IsStatus held thread result)) }
 {
@@ -201,7 +201,7 @@ fn live(session: &mut Session) -> u32
 /// How many threads are live.
 #[unsafe(no_mangle)]
 pub unsafe extern "C" fn cilvm_live(at: *mut u8) -> u32
-    ghost held: { Held }
+    ghost held: { SessionState }
     requires* { sem 𝓛 (is_held row.the_row at held) }
     ensures* { sem 𝓛 (such_is_held row.the_row at (IsLiveCount held result)) }
 {
@@ -220,7 +220,7 @@ fn used(session: &mut Session, new_words: &mut u32) -> u32
 /// The words in use of the old space, or the only one. `new_words` says those of the new one.
 #[unsafe(no_mangle)]
 pub unsafe extern "C" fn cilvm_used(at: *mut u8, new_words: &mut u32) -> u32
-    ghost held: { Held }
+    ghost held: { SessionState }
     requires* { sem 𝓛 (is_held row.the_row at held) }
     ensures* { sem 𝓛 (such_is_held row.the_row at (λ after. AreUsed held result new_words.new after)) }
 {
@@ -237,7 +237,7 @@ fn waits(session: &mut Session, thread: u8) -> u32
 /// Whom a thread waits for: 0 for nobody, 256 and the number of the owner of a monitor, or 512 and the number of a thread whose end is awaited.
 #[unsafe(no_mangle)]
 pub unsafe extern "C" fn cilvm_waits(at: *mut u8, thread: u8) -> u32
-    ghost held: { Held }
+    ghost held: { SessionState }
     requires* { sem 𝓛 (is_held row.the_row at held) }
     ensures* { sem 𝓛 (such_is_held row.the_row at (IsWait held thread result)) }
 {
@@ -255,7 +255,7 @@ fn close(session: &mut Session) -> u32
 /// Frees all memory of a session but its own block, and returns 0. It may be opened again.
 #[unsafe(no_mangle)]
 pub unsafe extern "C" fn cilvm_close(at: *mut u8) -> u32
-    ghost held: { Held }
+    ghost held: { SessionState }
     requires* { sem 𝓛 (is_held row.the_row at held) }
     ensures* { sem 𝓛 (such_is_held row.the_row at (IsClosing result)) }
 {

@@ -28,9 +28,9 @@ pub(crate) struct Session {
 
 impl Model for Session {
     ghost use Rattle.std.specs.Prelude.{string_bytes};
-    ghost use Rattle.cilvm_c.specs.Sessions.{Held};
+    ghost use Rattle.cilvm_c.specs.Sessions.{SessionState};
 
-    ghost Value = { Held };
+    ghost Value = { SessionState };
 
     ghost view = { λ s. record { machine = s.machine; most_printed = s.most_printed; reason = string_bytes s.reason } };
 }

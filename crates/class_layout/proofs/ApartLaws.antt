@@ -64,12 +64,12 @@ found_own c f (g ∷ gs) further i (suc p) once at =
     ap (λ b. cond b (Some i) (position_from (keyed c f) (i + 1) (map (key_in c) gs ++ further))) other ∙ found_own c f gs further (i + 1) p (or_parts _ _ once).1 at ∙ ap Some index
 
 module _ (tree : Tree) (legal : IsLegal tree) where
-  abbrev IsPlacedAt : ClassName → ℕ → FieldKey × DeclaredType → Type 0
-  IsPlacedAt c i e = instance_slot tree e.0 ≡ Some (length (hidden_slots tree c) + i)
+  abbrev HasSlotAt : ClassName → ℕ → FieldKey × DeclaredType → Type 0
+  HasSlotAt c i e = instance_slot tree e.0 ≡ Some (length (hidden_slots tree c) + i)
 
   -- a field that the class itself declares lies after those that it inherits
-  own_placed : (c : ClassName) (p : ℕ) (e : FieldKey × DeclaredType) → slice_get (keyed_fields tree false c) p ≡ Some e → IsPlacedAt c (length (inherited tree c) + p) e
-  own_placed c p e at = by_field (slice_get own p) refl (sym (slice_get-map (key_in c) own p) ∙ at)
+  own_slot : (c : ClassName) (p : ℕ) (e : FieldKey × DeclaredType) → slice_get (keyed_fields tree false c) p ≡ Some e → HasSlotAt c (length (inherited tree c) + p) e
+  own_slot c p e at = by_field (slice_get own p) refl (sym (slice_get-map (key_in c) own p) ∙ at)
     where
       own : List Field
       own = of_flag false (fields_declared tree c)
@@ -77,7 +77,7 @@ module _ (tree : Tree) (legal : IsLegal tree) where
       hidden : ℕ
       hidden = length (hidden_slots tree c)
 
-      of_field : (f : Field) → slice_get own p ≡ Some f → IsPlacedAt c (length (inherited tree c) + p) (key_in c f)
+      of_field : (f : Field) → slice_get own p ≡ Some f → HasSlotAt c (length (inherited tree c) + p) (key_in c f)
       of_field f there =
           let declared : (q : ℕ) × (slice_get (fields_declared tree c) q ≡ Some f) = kept_from (λ (g : Field). same_flag g.is_static false) (fields_declared tree c) p f there in
           let sum : hidden + length (inherited tree c) + p ≡ hidden + (length (inherited tree c) + p) = omega arith in
@@ -85,9 +85,9 @@ module _ (tree : Tree) (legal : IsLegal tree) where
           position_past (keyed c f) hidden (inherited tree c) (keyed_fields tree false c ++ []) (none_along tree c f false (above tree c) (none_above tree legal c declared.0 f declared.1)) ∙
           found_own c f own [] (hidden + length (inherited tree c)) p (once_kept same_name (λ (g : Field). same_flag g.is_static false) (fields_declared tree c) (once_declared tree legal c declared.0 f declared.1)) there ∙ ap Some sum
 
-      by_field : (o : Option Field) → slice_get own p ≡ o → option_map (key_in c) o ≡ Some e → IsPlacedAt c (length (inherited tree c) + p) e
+      by_field : (o : Option Field) → slice_get own p ≡ o → option_map (key_in c) o ≡ Some e → HasSlotAt c (length (inherited tree c) + p) e
       by_field None there k = absurd (none_is_some e k)
-      by_field (Some f) there k = let same : key_in c f ≡ e = cc in subst (IsPlacedAt c (length (inherited tree c) + p)) same (of_field f there)
+      by_field (Some f) there k = let same : key_in c f ≡ e = cc in subst (HasSlotAt c (length (inherited tree c) + p)) same (of_field f there)
 
   -- ---- inherited fields
 
@@ -115,13 +115,13 @@ module _ (tree : Tree) (legal : IsLegal tree) where
 
   -- ---- all of them
 
-  placed_within : (n : ℕ) (c : ClassName) → length (chain_of tree c) ≤ n → (i : ℕ) (e : FieldKey × DeclaredType) → slice_get (instance_fields tree c) i ≡ Some e → IsPlacedAt c i e
-  placed_within zero c h i e at = absurd (omega (arith, h))
-  placed_within (suc n) c h i e at =
-      by_part (of_either (inherited tree c) (keyed_fields tree false c ++ []) i e (sym (ap (λ es. slice_get es i) (own_last tree c)) ∙ at)) (λ b short. placed_within n b short i e)
+  slot_within : (n : ℕ) (c : ClassName) → length (chain_of tree c) ≤ n → (i : ℕ) (e : FieldKey × DeclaredType) → slice_get (instance_fields tree c) i ≡ Some e → HasSlotAt c i e
+  slot_within zero c h i e at = absurd (omega (arith, h))
+  slot_within (suc n) c h i e at =
+      by_part (of_either (inherited tree c) (keyed_fields tree false c ++ []) i e (sym (ap (λ es. slice_get es i) (own_last tree c)) ∙ at)) (λ b short. slot_within n b short i e)
     where
       by_base : (o : Option ClassName) → base_of tree c ≡ o → slice_get (inherited tree c) i ≡ Some e →
-          ((b : ClassName) → length (chain_of tree b) ≤ n → slice_get (instance_fields tree b) i ≡ Some e → IsPlacedAt b i e) → IsPlacedAt c i e
+          ((b : ClassName) → length (chain_of tree b) ≤ n → slice_get (instance_fields tree b) i ≡ Some e → HasSlotAt b i e) → HasSlotAt c i e
       by_base None is there further = absurd (none_is_some e (sym (ap (λ es. slice_get es i) (none_inherited c is)) ∙ there))
       by_base (Some b) is there further =
           let at_base : slice_get (instance_fields tree b) i ≡ Some e = sym (ap (λ es. slice_get es i) (inherited_fields c b is)) ∙ there in
@@ -129,26 +129,26 @@ module _ (tree : Tree) (legal : IsLegal tree) where
           further b (omega (arith, h, count)) at_base ∙ ap (λ (v : Bool). Some (length {A = Option DeclaredType} (if v then None ∷ [] else []) + i)) (sym (same_thread c b i e is at_base))
 
       by_part : (slice_get (inherited tree c) i ≡ Some e) ⊎ ((p : ℕ) × (i ≡ length (inherited tree c) + p) × (slice_get (keyed_fields tree false c ++ []) p ≡ Some e)) →
-          ((b : ClassName) → length (chain_of tree b) ≤ n → slice_get (instance_fields tree b) i ≡ Some e → IsPlacedAt b i e) → IsPlacedAt c i e
+          ((b : ClassName) → length (chain_of tree b) ≤ n → slice_get (instance_fields tree b) i ≡ Some e → HasSlotAt b i e) → HasSlotAt c i e
       by_part (inl there) further = by_base (base_of tree c) refl there further
       by_part (inr (p, index, there)) further =
-          own_placed c p e (sym (ap (λ es. slice_get es p) (append-nil (keyed_fields tree false c))) ∙ there) ∙ ap (λ k. Some (length (hidden_slots tree c) + k)) (sym index)
+          own_slot c p e (sym (ap (λ es. slice_get es p) (append-nil (keyed_fields tree false c))) ∙ there) ∙ ap (λ k. Some (length (hidden_slots tree c) + k)) (sym index)
 
   -- the slot of a field is its index after the hidden slot
-  pub placed_in : (c : ClassName) (i : ℕ) (e : FieldKey × DeclaredType) → slice_get (instance_fields tree c) i ≡ Some e → IsPlacedAt c i e
-  placed_in c = placed_within (length (chain_of tree c)) c (omega arith)
+  pub field_has_slot : (c : ClassName) (i : ℕ) (e : FieldKey × DeclaredType) → slice_get (instance_fields tree c) i ≡ Some e → HasSlotAt c i e
+  field_has_slot c = slot_within (length (chain_of tree c)) c (omega arith)
 
   -- so two fields have two slots
   pub slots_apart : (c : ClassName) (i j : ℕ) (e d : FieldKey × DeclaredType) → slice_get (instance_fields tree c) i ≡ Some e → slice_get (instance_fields tree c) j ≡ Some d → i ≢ j → instance_slot tree e.0 ≢ instance_slot tree d.0
   slots_apart c i j e d at there other same =
-      let both : Some (length (hidden_slots tree c) + i) ≡ Some (length (hidden_slots tree c) + j) = sym (placed_in c i e at) ∙ same ∙ placed_in c j d there in
+      let both : Some (length (hidden_slots tree c) + i) ≡ Some (length (hidden_slots tree c) + j) = sym (field_has_slot c i e at) ∙ same ∙ field_has_slot c j d there in
       let sums : length (hidden_slots tree c) + i ≡ length (hidden_slots tree c) + j = cc in
       other (omega (arith, sums))
 
   -- and the slot holds what the field holds
   pub type_at_slot : (c : ClassName) (i : ℕ) (e : FieldKey × DeclaredType) → slice_get (instance_fields tree c) i ≡ Some e → (n : ℕ) → instance_slot tree e.0 ≡ Some n → slice_get (slot_types tree c) n ≡ Some (Some e.1)
   type_at_slot c i e at n is =
-      let both : Some n ≡ Some (length (hidden_slots tree c) + i) = sym is ∙ placed_in c i e at in
+      let both : Some n ≡ Some (length (hidden_slots tree c) + i) = sym is ∙ field_has_slot c i e at in
       let index : n ≡ length (hidden_slots tree c) + i = cc in
       let types : List (Option DeclaredType) = map (λ (f : FieldKey × DeclaredType). Some f.1) (instance_fields tree c) in
       get_after (hidden_slots tree c) types n i index ∙ slice_get-map (λ (f : FieldKey × DeclaredType). Some f.1) (instance_fields tree c) i ∙

@@ -13,7 +13,7 @@ use Rattle.cil_model.specs.Chains.{fields_declared, listed_by}
 use Rattle.cil_model.specs.Fields.{keyed_fields, static_fields}
 use Rattle.cil_model.specs.Legality.{IsLegal}
 use Rattle.name_tables.specs.Numbers.{declarations}
-use Rattle.resolved_code.specs.Resolved.{AreResolved}
+use Rattle.resolved_code.specs.ResolvedPrograms.{AreResolved}
 use Rattle.resolved_code.specs.declared.classes.ResolvedClass.{ResolvedClass}
 use Rattle.resolved_code.specs.declared.classes.ResolvedField.{ResolvedField}
 use Rattle.resolved_code.proofs.ListLaws.RelatedLists.{AlikeTo, alike_to}

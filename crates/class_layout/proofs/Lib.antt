@@ -5,6 +5,6 @@ pub mod KindLaws
 pub mod SlotLaws
 pub mod TargetLaws
 pub mod ResolvedLaws
-pub mod RoleLaws
+pub mod SlotUseLaws
 pub mod ApartLaws
 pub mod CountLaws

@@ -14,7 +14,7 @@ use Rattle.cil_model.specs.Legality.{IsLegal}
 use Rattle.name_tables.specs.Numbers.{class_number, declarations}
 use Rattle.name_tables.proofs.NumberLaws.{numbers_within, numbers_of_unknown}
 use Rattle.resolved_code.specs.ById.{class_name, type_named}
-use Rattle.resolved_code.specs.Resolved.{AllAlike, AreResolved, IsResolvedField, IsResolvedClass}
+use Rattle.resolved_code.specs.ResolvedPrograms.{AllAlike, AreResolved, IsResolvedField, IsResolvedClass}
 use Rattle.resolved_code.proofs.ListLaws.RelatedLists.{AlikeTo, alike_to}
 use Rattle.resolved_code.specs.declared.classes.ResolvedClass.{ResolvedClass}
 use Rattle.resolved_code.specs.declared.classes.ResolvedField.{ResolvedField}

@@ -51,10 +51,10 @@ of_flag flag fs = filter (λ (f : Field). same_flag f.is_static flag) fs
 
 -- the number of a field is where its key is found among those of its flag
 module _ {Y : Type 0} (flag : Bool) (key : Field → Y) (test : Y → Bool) (further : List Y) (f : Field) (alike : (g : Field) → test (key g) ≡ same_text g.name f.name) (flagged : f.is_static ≡ flag) where
-  placed : (fs : List Field) (s i p : ℕ) → has_repeat same_name fs ≡ false → slice_get fs p ≡ Some f →
+  field_number_is : (fs : List Field) (s i p : ℕ) → has_repeat same_name fs ≡ false → slice_get fs p ≡ Some f →
       slice_get (fields_by_id s i fs) p ≡ position_from test (if flag then s else i) (map key (of_flag flag fs) ++ further)
-  placed [] s i p h e = absurd (none_is_some f e)
-  placed (g ∷ gs) s i zero h e =
+  field_number_is [] s i p h e = absurd (none_is_some f e)
+  field_number_is (g ∷ gs) s i zero h e =
       let q : g ≡ f = cc in
       let own : g.is_static ≡ flag = ap (λ (x : Field). x.is_static) q ∙ flagged in
       let named : test (key g) ≡ true = alike g ∙ ap (λ (x : Field). same_text x.name f.name) q ∙ same_text_itself f.name in
@@ -71,7 +71,7 @@ module _ {Y : Type 0} (flag : Bool) (key : Field → Y) (test : Y → Bool) (fur
         where
           no_flag : true ≡ false → ⊥
           no_flag z = cc
-  placed (g ∷ gs) s i (suc p) h e = by_flag flag g.is_static (λ t j. placed gs t j p (or_parts _ _ h).1 e)
+  field_number_is (g ∷ gs) s i (suc p) h e = by_flag flag g.is_static (λ t j. field_number_is gs t j p (or_parts _ _ h).1 e)
     where
       other : test (key g) ≡ false
       other = alike g ∙ passes_not (same_name g) gs p f (or_parts _ _ h).0 e
@@ -145,10 +145,10 @@ module _ (tree : Tree) where
       let own : length (own_kinds tree c) ≡ length (keyed_fields tree false c) = own_counted c in
       omega (arith, all, split, mapped, whole, own)
 
-  instance_placed : (c : ClassName) (f : Field) (s p : ℕ) → list_any (same_class c) (above c) ≡ false → has_repeat same_name (fields_declared tree c) ≡ false → slice_get (fields_declared tree c) p ≡ Some f → f.is_static ≡ false →
+  instance_slot_is : (c : ClassName) (f : Field) (s p : ℕ) → list_any (same_class c) (above c) ≡ false → has_repeat same_name (fields_declared tree c) ≡ false → slice_get (fields_declared tree c) p ≡ Some f → f.is_static ≡ false →
       slice_get (fields_by_id s (first_slot tree c) (fields_declared tree c)) p ≡ instance_slot tree (record { declared_in = c; name = f.name })
-  instance_placed c f s p lone once at flagged =
-      placed false (key_in c) (keyed c f) [] f (own_alike c f) flagged (fields_declared tree c) s (first_slot tree c) p once at ∙
+  instance_slot_is c f s p lone once at flagged =
+      field_number_is false (key_in c) (keyed c f) [] f (own_alike c f) flagged (fields_declared tree c) s (first_slot tree c) p once at ∙
       ap (λ n. position_from (keyed c f) n (keyed_fields tree false c ++ [])) (first_counted c) ∙
       sym (position_past (keyed c f) (length (hidden_slots tree c)) (inherited c) (keyed_fields tree false c ++ []) (none_along tree c f false (above c) lone)) ∙
       ap (position_from (keyed c f) (length (hidden_slots tree c))) (sym (own_last c))
@@ -165,18 +165,18 @@ module _ (tree : Tree) where
   row_found (x ∷ xs) s zero c e = let q : x ≡ c = cc in ap (λ y. Some (fields_by_id s (first_slot tree y) (fields_declared tree y))) q
   row_found (x ∷ xs) s (suc n) c e = row_found xs (statics_after s (fields_declared tree x)) n c e
 
-  static_placed : (c : ClassName) (f : Field) (i p : ℕ) → has_repeat same_name (fields_declared tree c) ≡ false → slice_get (fields_declared tree c) p ≡ Some f → f.is_static ≡ true →
+  static_slot_is : (c : ClassName) (f : Field) (i p : ℕ) → has_repeat same_name (fields_declared tree c) ≡ false → slice_get (fields_declared tree c) p ≡ Some f → f.is_static ≡ true →
       (cs : List ClassName) (s n : ℕ) → has_repeat same_class cs ≡ false → slice_get cs n ≡ Some c →
       slice_get (fields_by_id (static_start s cs n) i (fields_declared tree c)) p ≡ position_from (keyed c f) s (flat_map (keyed_fields tree true) cs)
-  static_placed c f i p once at flagged [] s n h e = absurd (none_is_some c e)
-  static_placed c f i p once at flagged (x ∷ xs) s zero h e =
+  static_slot_is c f i p once at flagged [] s n h e = absurd (none_is_some c e)
+  static_slot_is c f i p once at flagged (x ∷ xs) s zero h e =
       let q : x ≡ c = cc in
-      placed true (key_in c) (keyed c f) (flat_map (keyed_fields tree true) xs) f (own_alike c f) flagged (fields_declared tree c) s i p once at ∙
+      field_number_is true (key_in c) (keyed c f) (flat_map (keyed_fields tree true) xs) f (own_alike c f) flagged (fields_declared tree c) s i p once at ∙
       ap (λ y. position_from (keyed c f) s (keyed_fields tree true y ++ flat_map (keyed_fields tree true) xs)) (sym q)
-  static_placed c f i p once at flagged (x ∷ xs) s (suc n) h e =
+  static_slot_is c f i p once at flagged (x ∷ xs) s (suc n) h e =
       let apart : same_class x c ≡ false = passes_not (same_class x) xs n c (or_parts _ _ h).0 e in
       let count : statics_after s (fields_declared tree x) ≡ s + length (keyed_fields tree true x) = statics_counted s (fields_declared tree x) ∙ ap (λ m. s + m) (sym (length-map (of_flag true (fields_declared tree x)) (key_in x))) in
-      static_placed c f i p once at flagged xs (statics_after s (fields_declared tree x)) n (or_parts _ _ h).1 e ∙
+      static_slot_is c f i p once at flagged xs (statics_after s (fields_declared tree x)) n (or_parts _ _ h).1 e ∙
       ap (λ m. position_from (keyed c f) m (flat_map (keyed_fields tree true) xs)) count ∙
       sym (position_past (keyed c f) s (keyed_fields tree true x) (flat_map (keyed_fields tree true) xs) (none_of_other tree c f x apart (of_flag true (fields_declared tree x))))
 
@@ -287,8 +287,8 @@ module _ (tree : Tree) where
       row = ap (λ o. slice_get (unwrap_or o []) p) (row_found (class_names tree) 0 n c named)
 
       by_flag : (b : Bool) → f.is_static ≡ b → slice_get (fields_by_id (static_start 0 (class_names tree) n) (first_slot tree c) (fields_declared tree c)) p ≡ slot_of b (record { declared_in = c; name = f.name })
-      by_flag false e = instance_placed c f (static_start 0 (class_names tree) n) p (none_above legal c p f at_index) (once_declared legal c p f at_index) at_index e
-      by_flag true e = static_placed c f (first_slot tree c) p (once_declared legal c p f at_index) at_index e (class_names tree) 0 n (names_occur_once_too legal) named ∙ ap (position_from (keyed c f) 0) all_statics
+      by_flag false e = instance_slot_is c f (static_start 0 (class_names tree) n) p (none_above legal c p f at_index) (once_declared legal c p f at_index) at_index e
+      by_flag true e = static_slot_is c f (first_slot tree c) p (once_declared legal c p f at_index) at_index e (class_names tree) 0 n (names_occur_once_too legal) named ∙ ap (position_from (keyed c f) 0) all_statics
 
   -- the number or slot of the field that a class and an index find
   pub slot_found : IsLegal tree → (n p : ℕ) (c : ClassName) (f : Field) → field_at tree (n, p) ≡ Some (c, f) →

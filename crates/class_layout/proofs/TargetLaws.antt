@@ -14,7 +14,7 @@ use Rattle.cil_model.specs.Declarations.{Declaration}
 use Rattle.cil_model.specs.Chains.{listed_by, chain_of, methods_declared, method_declared, interfaces_declared, is_interface, nearest, is_static, is_virtual, is_new_slot_method}
 use Rattle.cil_model.specs.Slots.{slot_filled, slot_along, implementation_along, class_target, virtual_in, implementer_along, interface_target, target}
 use Rattle.cil_model.specs.Legality.{IsLegal}
-use Rattle.name_tables.specs.Sameness.{MethodIdentity, same_identity, identity_of, same_called, called_of}
+use Rattle.name_tables.specs.Sameness.{MethodIdentity, same_identity, identity_of, same_call_identity, call_identity_of}
 use Rattle.name_tables.specs.SamenessLaws.{identity_equivalence}
 use Rattle.name_tables.specs.Numbers.{declarations, class_number, chain_numbers, method_at, index_in, method_found}
 use Rattle.name_tables.specs.declared.ids.MethodId.{MethodId}
@@ -44,22 +44,22 @@ virtual_not_static (Abstract is_new_slot) h = refl
 
 -- where a method of an identity has an object, the first of that identity for objects is the same one
 find_own : (k : MethodIdentity) (ms : List Method) (m : Method) → find (λ (x : Method). same_identity (identity_of x) k) ms ≡ Some m → is_static m.kind ≡ false →
-    find (λ (x : Method). same_called (k, false) (called_of x)) ms ≡ Some m
+    find (λ (x : Method). same_call_identity (k, false) (call_identity_of x)) ms ≡ Some m
 find_own k [] m h s = absurd (none_is_some m h)
 find_own k (x ∷ xs) m h s = by_test (same_identity (identity_of x) k) refl h (λ g. find_own k xs m g s)
   where
     by_test : (b : Bool) → same_identity (identity_of x) k ≡ b → cond b (Some x) (find (λ (y : Method). same_identity (identity_of y) k) xs) ≡ Some m →
-        (find (λ (y : Method). same_identity (identity_of y) k) xs ≡ Some m → find (λ (y : Method). same_called (k, false) (called_of y)) xs ≡ Some m) →
-        cond (same_identity k (identity_of x) && same_flag false (is_static x.kind)) (Some x) (find (λ (y : Method). same_called (k, false) (called_of y)) xs) ≡ Some m
+        (find (λ (y : Method). same_identity (identity_of y) k) xs ≡ Some m → find (λ (y : Method). same_call_identity (k, false) (call_identity_of y)) xs ≡ Some m) →
+        cond (same_identity k (identity_of x) && same_flag false (is_static x.kind)) (Some x) (find (λ (y : Method). same_call_identity (k, false) (call_identity_of y)) xs) ≡ Some m
     by_test true e g further =
         let q : x ≡ m = cc in
         let own : same_identity k (identity_of x) ≡ true = identity_equivalence.symm k (identity_of x) ∙ e in
         let kind : is_static x.kind ≡ false = ap (λ (y : Method). is_static y.kind) q ∙ s in
-        ap (λ b. cond (b && same_flag false (is_static x.kind)) (Some x) (find (λ (y : Method). same_called (k, false) (called_of y)) xs)) own ∙
-        ap (λ b. cond (same_flag false b) (Some x) (find (λ (y : Method). same_called (k, false) (called_of y)) xs)) kind ∙ ap Some q
+        ap (λ b. cond (b && same_flag false (is_static x.kind)) (Some x) (find (λ (y : Method). same_call_identity (k, false) (call_identity_of y)) xs)) own ∙
+        ap (λ b. cond (same_flag false b) (Some x) (find (λ (y : Method). same_call_identity (k, false) (call_identity_of y)) xs)) kind ∙ ap Some q
     by_test false e g further =
         let other : same_identity k (identity_of x) ≡ false = identity_equivalence.symm k (identity_of x) ∙ e in
-        ap (λ b. cond (b && same_flag false (is_static x.kind)) (Some x) (find (λ (y : Method). same_called (k, false) (called_of y)) xs)) other ∙ further g
+        ap (λ b. cond (b && same_flag false (is_static x.kind)) (Some x) (find (λ (y : Method). same_call_identity (k, false) (call_identity_of y)) xs)) other ∙ further g
 
 module _ (tree : Tree) where
   -- what a number of a method refers to
@@ -130,7 +130,7 @@ module _ (tree : Tree) where
     own_known : (c : ClassName) (n : ℕ) (m : Method) → class_number tree c ≡ Some n → method_declared tree k.name k.signature c ≡ Some m → is_virtual m.kind ≡ true → option_map target_method (own_method tree k n) ≡ Some (Some (c, m))
     own_known c n m e g v =
         let found : FoundAt tree c n = found_at tree c n e in
-        let own : Method → Bool = λ x. same_called (k, false) (called_of x) in
+        let own : Method → Bool = λ x. same_call_identity (k, false) (call_identity_of x) in
         let has_id : option_map (λ p. method_at tree (n, p)) (index_in (λ d. d.methods) own tree n) ≡ option_map (λ x. Some (c, x)) (find own (methods_declared tree c)) =
         in_present tree (λ d. d.methods) own own (λ x. refl) c found.0 n found.1 found.2 in
         option_map_of_map (λ p. let r : MethodId = record { class = n; index = p } in r) target_method (index_in (λ d. d.methods) own tree n) ∙ has_id ∙

@@ -1,6 +1,6 @@
 pub mod ByClass
 pub mod Kinds
 pub mod FieldSlots
-pub mod Roles
+pub mod SlotUses
 pub mod Targets
-pub mod Laid
+pub mod Layouts

@@ -7,7 +7,7 @@ use Rattle.cil_model.specs.declared.trees.Tree.{Tree}
 use Rattle.cil_model.specs.declared.trees.Method.{Method}
 use Rattle.cil_model.specs.Declarations.{Declaration}
 use Rattle.cil_model.specs.Chains.{methods_declared, is_interface, is_virtual}
-use Rattle.name_tables.specs.Sameness.{MethodIdentity, identity_of, same_called, called_of}
+use Rattle.name_tables.specs.Sameness.{MethodIdentity, identity_of, same_call_identity, call_identity_of}
 use Rattle.name_tables.specs.Numbers.{declarations, class_number, chain_numbers, index_in, method_found}
 use Rattle.name_tables.specs.declared.ids.MethodId.{MethodId}
 use Rattle.resolved_code.specs.VirtualSlots.{is_virtual_found, slot_by_id}
@@ -30,7 +30,7 @@ implementation_by_id tree k slot (n ∷ ns) = implementation_over tree k n (opti
 
 -- the method of this name and signature that a class declares for its objects
 abbrev pub own_method : Tree → MethodIdentity → ℕ → Option MethodId
-own_method tree k n = option_map (λ index. record { class = n; index = index }) (index_in (λ d. d.methods) (λ m. same_called (k, false) (called_of m)) tree n)
+own_method tree k n = option_map (λ index. record { class = n; index = index }) (index_in (λ d. d.methods) (λ m. same_call_identity (k, false) (call_identity_of m)) tree n)
 
 -- the method that fills along one chain the slot that is known along another (II.10.3)
 abbrev pub class_implementation : Tree → MethodIdentity → List ℕ → List ℕ → Option MethodId

@@ -69,7 +69,7 @@ fn rows(alloc: Global, classes: &Classes) -> Result<Vec<Vec<bool>>, NoMemory>
 }
 
 impl Ancestry {
-    ghost use Rattle.class_layout.specs.Laid.{IsAncestry};
+    ghost use Rattle.class_layout.specs.Layouts.{IsAncestry};
     ghost use Rattle.cil_model.specs.declared.trees.Tree.{Tree};
 
     /// The only error is out of memory.

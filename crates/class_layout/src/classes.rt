@@ -5,7 +5,7 @@ ghost use Rattle.cil_model.specs.declared.trees.Tree.{Tree};
 ghost use Rattle.cil_model.specs.Chains.{longest_chain};
 ghost use Rattle.cil_model.specs.Legality.{IsLegal};
 ghost use Rattle.name_tables.specs.Numbers.{chain_numbers, declarations};
-ghost use Rattle.resolved_code.specs.Resolved.{AreResolved};
+ghost use Rattle.resolved_code.specs.ResolvedPrograms.{AreResolved};
 ghost use Rattle.class_layout.specs.ByClass.{by_class, base_at, chain_by, interface_numbers};
 ghost use Rattle.class_layout.specs.Targets.{chain_at};
 

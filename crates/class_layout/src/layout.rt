@@ -12,7 +12,7 @@ ghost use Rattle.cil_model.specs.declared.trees.Method.{Method};
 ghost use Rattle.cil_model.specs.Slots.{target};
 ghost use Rattle.name_tables.specs.Numbers.{field_at, method_at};
 ghost use Rattle.resolved_code.specs.ById.{class_name, type_at};
-ghost use Rattle.resolved_code.specs.Resolved.{AreResolved};
+ghost use Rattle.resolved_code.specs.ResolvedPrograms.{AreResolved};
 
 use crate::ancestry::Ancestry;
 use crate::classes::Classes;
@@ -48,7 +48,7 @@ impl Drop for Layout {
 }
 
 impl Layout {
-    ghost use Rattle.class_layout.specs.Laid.{IsLayout};
+    ghost use Rattle.class_layout.specs.Layouts.{IsLayout};
     ghost use Rattle.class_layout.specs.Kinds.{kind_of};
 
     /// The layout of a program. The only error is out of memory.

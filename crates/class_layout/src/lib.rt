@@ -12,8 +12,8 @@ pub mod laws;
 mod layout;
 mod method_families;
 mod program;
-mod roles;
 mod rows;
+mod slot_uses;
 mod slots;
 mod targets;
 

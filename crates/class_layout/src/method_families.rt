@@ -2,33 +2,33 @@
 
 ghost use Rattle.std.specs.Prelude.{◌≡◌, ◌==◌, IfOk, false, map, find};
 ghost use Rattle.std.specs.Option.{option_map_or};
-ghost use Rattle.class_layout.specs.Roles.{role_in, role_at, own_at, is_virtual_at, slot_by_role, slot_from, slot_along, implementation_from, implementation_along, filled_along, listed_implementation};
+ghost use Rattle.class_layout.specs.SlotUses.{slot_use_in, slot_use_at, own_at, is_virtual_at, slot_by_use, slot_from, slot_along, implementation_from, implementation_along, filled_along, listed_implementation};
 ghost use Rattle.class_layout.specs.Targets.{is_implementer};
 
 use crate::classes::Classes;
-use crate::roles::{Role, own_index, roles};
 use crate::rows::entry_at;
+use crate::slot_uses::{SlotUse, own_index, uses_by_class};
 use cil_model::memory::NoMemory;
 use name_tables::ids::{ClassId, MethodId};
 use std::alloc::Global;
 
-/// The methods of one name and signature: the role of the first one of each class, by the classes' numbers.
+/// The methods of one name and signature: the slot use of the first one of each class, by the classes' numbers.
 #[derive(Drop)]
 pub struct MethodFamilies<'p> {
     pub classes: &'p Classes<'p>,
     pub identity: usize,
-    roles: Vec<Option<Role>>,
-    ghost roles_are: { roles.items ≡ map (λ r. role_in identity r.methods) classes.now.all.now },
+    slot_uses: Vec<Option<SlotUse>>,
+    ghost slot_uses_are: { slot_uses.items ≡ map (λ r. slot_use_in identity r.methods) classes.now.all.now },
 }
 
 /// The slot that a method of a class fills over the one that it inherits. A slot is known by the class that introduced it.
-fn slot_filled(class: ClassId, inherited: Option<ClassId>, role: Role) -> Option<ClassId>
-    ensures { result ≡ slot_by_role class inherited role }
+fn slot_filled(class: ClassId, inherited: Option<ClassId>, slot_use: SlotUse) -> Option<ClassId>
+    ensures { result ≡ slot_by_use class inherited slot_use }
 {
-    match role {
-        Role::Plain => None,
-        Role::ReuseSlot => Some(inherited.unwrap_or(class)),
-        Role::NewSlot => Some(class),
+    match slot_use {
+        SlotUse::Plain => None,
+        SlotUse::ReuseSlot => Some(inherited.unwrap_or(class)),
+        SlotUse::NewSlot => Some(class),
     }
 }
 
@@ -65,30 +65,30 @@ impl<'p> MethodFamilies<'p> {
         ensures classes { IfOk result (λ methods. methods.classes.now ≡ classes.now) }
         ensures identity { IfOk result (λ methods. methods.identity ≡ identity) }
     {
-        let roles = roles(alloc, classes.all, identity)?;
+        let slot_uses = uses_by_class(alloc, classes.all, identity)?;
         Ok(MethodFamilies {
             classes,
             identity,
-            roles,
+            slot_uses,
         })
     }
 
-    /// The role of the method of a class.
-    fn role(&self, class: ClassId) -> Option<Role>
-        ensures { result ≡ role_at self.now.classes.now.all.now self.now.identity class }
+    /// The slot use of the method of a class.
+    fn slot_use(&self, class: ClassId) -> Option<SlotUse>
+        ensures { result ≡ slot_use_at self.now.classes.now.all.now self.now.identity class }
     {
-        entry_at(self.roles.as_slice(), class)
+        entry_at(self.slot_uses.as_slice(), class)
     }
 
     // ---- slots along a chain
 
     /// The slot as seen from a class, where it is known as seen from its base.
-    fn slot_over(&self, class: ClassId, inherited: Option<ClassId>) -> Option<ClassId>
+    fn slot_from_base(&self, class: ClassId, inherited: Option<ClassId>) -> Option<ClassId>
         ensures { result ≡ slot_from self.now.classes.now.all.now self.now.identity class inherited }
     {
-        match self.role(class) {
+        match self.slot_use(class) {
             None => inherited,
-            Some(role) => slot_filled(class, inherited, role),
+            Some(slot_use) => slot_filled(class, inherited, slot_use),
         }
     }
 
@@ -98,7 +98,7 @@ impl<'p> MethodFamilies<'p> {
     {
         let mut slot = None;
         for index in (0..chain.len()).rev() {
-            slot = self.slot_over(chain[index], slot);
+            slot = self.slot_from_base(chain[index], slot);
         }
         slot
     }
@@ -116,7 +116,7 @@ impl<'p> MethodFamilies<'p> {
         if !fills {
             return below;
         }
-        match self.role(class) {
+        match self.slot_use(class) {
             None => below,
             Some(_) => Some(class),
         }
@@ -129,7 +129,7 @@ impl<'p> MethodFamilies<'p> {
         let mut slot = None;
         let mut implementation = None;
         for index in (0..chain.len()).rev() {
-            slot = self.slot_over(chain[index], slot);
+            slot = self.slot_from_base(chain[index], slot);
             implementation = self.implementation_over(
                 chain[index],
                 is_slot(&slot, required),
@@ -171,9 +171,9 @@ impl<'p> MethodFamilies<'p> {
     fn has_virtual(&self, class: ClassId) -> bool
         ensures { result ≡ is_virtual_at self.now.classes.now.all.now self.now.identity class }
     {
-        match self.role(class) {
-            None | Some(Role::Plain) => false,
-            Some(Role::ReuseSlot | Role::NewSlot) => true,
+        match self.slot_use(class) {
+            None | Some(SlotUse::Plain) => false,
+            Some(SlotUse::ReuseSlot | SlotUse::NewSlot) => true,
         }
     }
 

@@ -1,7 +1,7 @@
 //! The layout of a program.
 
 ghost use Rattle.std.specs.Prelude.{IfOk};
-ghost use Rattle.class_layout.specs.Laid.{IsLayout};
+ghost use Rattle.class_layout.specs.Layouts.{IsLayout};
 
 use crate::classes::Classes;
 use crate::layout::Layout;

@@ -1,7 +1,7 @@
 //! The numbers of static fields and the slots of instance fields (ECMA-335 II.16; the numbers are this profile's).
 
 ghost use Rattle.std.specs.Prelude.{◌≡◌, ◌+◌, ◌<◌, ◌^◌, [], IfOk, if◌then◌else◌, length, map, slice_get, unwrap_or};
-ghost use Rattle.resolved_code.specs.Resolved.{AreResolved};
+ghost use Rattle.resolved_code.specs.ResolvedPrograms.{AreResolved};
 ghost use Rattle.class_layout.specs.ByClass.{by_class};
 ghost use Rattle.class_layout.specs.Kinds.{own_kinds, slot_kinds};
 ghost use Rattle.class_layout.specs.FieldSlots.{number_after, slot_after, static_by_id, statics_by_flag, slots_by_flag, following_slot, field_rows, class_names};

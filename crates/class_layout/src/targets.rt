@@ -7,15 +7,15 @@ ghost use Rattle.cil_model.specs.Declarations.{Declaration};
 ghost use Rattle.name_tables.specs.Numbers.{declarations};
 ghost use Rattle.name_tables.specs.Sameness.{MethodIdentity, identity_of};
 ghost use Rattle.resolved_code.specs.Identities.{identity_number};
-ghost use Rattle.resolved_code.specs.Resolved.{AllAlike, AreResolved, IsResolvedMethod};
+ghost use Rattle.resolved_code.specs.ResolvedPrograms.{AllAlike, AreResolved, IsResolvedMethod};
 ghost use Rattle.std.specs.Option.{option_map_or};
 ghost use Rattle.class_layout.specs.ByClass.{by_class};
 ghost use Rattle.class_layout.specs.Targets.{target_number, target_row, target_rows, targets_of, target_in};
 
 use crate::classes::Classes;
 use crate::method_families::MethodFamilies;
-use crate::roles::is_virtual;
 use crate::rows::{entry_at, row_at};
+use crate::slot_uses::is_virtual;
 use cil_model::memory::NoMemory;
 use name_tables::ids::{ClassId, MethodId};
 use resolved_code::classes::ResolvedMethod;

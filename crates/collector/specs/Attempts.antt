@@ -4,7 +4,7 @@ use Rattle.std.specs.Prelude.{ℕ, zero, suc, ◌+◌, ◌*◌, ◌==◌, ◌&&�
 use Rattle.object_memory.specs.declared.monitors.Monitor.{Monitor}
 use Rattle.object_memory.specs.declared.monitors.Monitor.TheVariants.{Free, Held}
 use Rattle.object_memory.specs.Cells.{Cell}
-use Rattle.collector.specs.Marking.{word_of}
+use Rattle.collector.specs.MarkSteps.{word_of}
 use Rattle.collector.specs.declared.progress.Attempt.{Attempt}
 use Rattle.collector.specs.declared.progress.Stage.{Stage}
 use Rattle.collector.specs.declared.progress.Stage.TheVariants.{Begins, Loaded, Stored}

@@ -2,16 +2,16 @@
 use Rattle.std.specs.Prelude.{◌≡◌, ◌<◌, ◌-◌, ℕ, Bool, true, List, length, All, Some}
 use Rattle.cil_model.specs.declared.phases.Phase.{Phase}
 use Rattle.cil_model.specs.declared.trees.Tree.{Tree}
-use Rattle.class_layout.specs.Laid.{IsLayout}
+use Rattle.class_layout.specs.Layouts.{IsLayout}
 use Rattle.class_layout.specs.declared.layout.Layout.{Layout}
 use Rattle.object_memory.specs.declared.addresses.Addr.{Addr}
 use Rattle.object_memory.specs.declared.values.Value.{Value}
 use Rattle.object_memory.specs.Cells.{Cell, Cells, cell_in}
 use Rattle.object_memory.specs.Objects.{Objects}
 use Rattle.object_memory.specs.Spaces.{is_there}
-use Rattle.barriers.specs.Barriers.{is_value_there}
+use Rattle.barriers.specs.Barriers.{is_value_in_heap}
 use Rattle.collector.specs.References.{holds_reference, reference_in}
-use Rattle.collector.specs.Marking.{word_of}
+use Rattle.collector.specs.MarkSteps.{word_of}
 use Rattle.collector.specs.Soundness.{IsSoundHeap}
 use Rattle.collector.specs.declared.progress.Progress.{Progress}
 use Rattle.collector.specs.declared.walks.FoundObject.{FoundObject}
@@ -19,8 +19,8 @@ use Rattle.collector.specs.declared.walks.FoundObject.{FoundObject}
 -- ---- values
 
 -- each value is an integer, or a reference of what is there
-abbrev pub AreThere : Objects → List Value → Type 0
-AreThere o values = All (λ v. is_value_there o v ≡ true) values
+abbrev pub AreValuesInHeap : Objects → List Value → Type 0
+AreValuesInHeap o values = All (λ v. is_value_in_heap o v ≡ true) values
 
 -- ---- heaps
 
@@ -36,7 +36,7 @@ pub record IsSoundFor (layout : Layout) (posted_phase : Phase) (p : Progress) (o
   pub tree : Tree
   pub has_round : Bool
   pub words : ℕ
-  pub laid : IsLayout tree layout
+  pub layout_is : IsLayout tree layout
   pub sound : IsSoundHeap tree posted_phase has_round words p o.spaces
 
 -- ---- slots
@@ -44,7 +44,7 @@ pub record IsSoundFor (layout : Layout) (posted_phase : Phase) (p : Progress) (o
 -- a slot of an old object, which holds a reference of what is there if it holds one
 pub record IsReadable (layout : Layout) (o : Objects) (a : Addr) (slot : ℕ) : Type 0 where
   pub tree : Tree
-  pub laid : IsLayout tree layout
+  pub layout_is : IsLayout tree layout
   pub cell : Cell
   pub at : cell_in o.spaces.old a ≡ Some cell
   pub inside : slot < length cell.slots
@@ -53,7 +53,7 @@ pub record IsReadable (layout : Layout) (o : Objects) (a : Addr) (slot : ℕ) : 
 -- a word of such a slot, whatever it holds by now, whose forward can be asked for
 pub record IsForwardable (layout : Layout) (o : Objects) (a : Addr) (slot word : ℕ) : Type 0 where
   pub tree : Tree
-  pub laid : IsLayout tree layout
+  pub layout_is : IsLayout tree layout
   pub cell : Cell
   pub at : cell_in o.spaces.old a ≡ Some cell
   pub reference : holds_reference tree cell.kind slot ≡ true → is_there o.spaces (reference_in word) ≡ true

@@ -16,22 +16,22 @@ abbrev pub flip_step : Progress → Objects → List Value → Option Value → 
 flip_step p o statics None = (p, statics, false)
 flip_step p o statics (Some v) = (record p { flipped_statics = p.flipped_statics + 1 }, slice_set statics p.flipped_statics (forward_value o v), true)
 
-abbrev pub flipped_on : Progress → Objects → List Value → Progress × List Value × Bool
-flipped_on p o statics = flip_step p o statics (slice_get statics p.flipped_statics)
+abbrev pub next_flip_step : Progress → Objects → List Value → Progress × List Value × Bool
+next_flip_step p o statics = flip_step p o statics (slice_get statics p.flipped_statics)
 
 -- ---- the new block
 
 -- the next object of the new block with a mark or another copy, from the cursor on, loses both
-abbrev pub cleared_at : Progress → Objects → Option ℕ → Progress × Objects × Bool
-cleared_at p o None = (p, o, false)
-cleared_at p o (Some at) =
+abbrev pub clear_step_at : Progress → Objects → Option ℕ → Progress × Objects × Bool
+clear_step_at p o None = (p, o, false)
+clear_step_at p o (Some at) =
     option_map_or
     (λ (c : Cell). (record p { cursor = at - o.spaces.new.start + size c }, record o { spaces = clear o.spaces (record { number = at }) }, true))
     (cell_in o.spaces.new (record { number = at }))
     (p, o, false)
 
-abbrev pub cleared_on : Progress → Objects → Progress × Objects × Bool
-cleared_on p o = cleared_at p o (found_in is_noted o.spaces.new (o.spaces.new.start + p.cursor))
+abbrev pub next_clear_step : Progress → Objects → Progress × Objects × Bool
+next_clear_step p o = clear_step_at p o (found_in is_noted o.spaces.new (o.spaces.new.start + p.cursor))
 
 -- the new block is the only one
 abbrev pub retire_old : Objects → Objects

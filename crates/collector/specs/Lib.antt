@@ -3,8 +3,8 @@ pub mod References
 pub mod Attempts
 pub mod Phases
 pub mod Soundness
-pub mod Marking
-pub mod Copying
+pub mod MarkSteps
+pub mod CopySteps
 pub mod Flips
-pub mod Holding
+pub mod Holds
 pub mod Conditions

@@ -61,7 +61,7 @@ pub record AreCopies (tree : Tree) (posted_phase : Phase) (p : Progress) (m : Sp
   pub words : (word : ℕ) → IsInCopy posted_phase p m a from word → IsCopiedWord tree m from to word
 
 pub record AreCopied (tree : Tree) (posted_phase : Phase) (p : Progress) (m : Spaces) : Type 0 where
-  pub bare : (a : Addr) (c : Cell) → cell_in m.old a ≡ Some c → is_before_copies posted_phase ≡ true → c.other ≡ None
+  pub no_copy : (a : Addr) (c : Cell) → cell_in m.old a ≡ Some c → is_before_copies posted_phase ≡ true → c.other ≡ None
   pub unmarked : (a : Addr) (c : Cell) → cell_in m.old a ≡ Some c → is_of_cycle posted_phase ≡ false → c.marked ≡ false
   pub out : (a b : Addr) (c : Cell) → cell_in m.old a ≡ Some c → c.other ≡ Some b → (d : Cell) × (cell_in m.new b ≡ Some d) × AreCopies tree posted_phase p m a c d
   pub back : (a b : Addr) (d : Cell) → cell_in m.new b ≡ Some d → d.other ≡ Some a → (c : Cell) × (cell_in m.old a ≡ Some c) × (c.other ≡ Some b)

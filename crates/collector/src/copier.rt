@@ -3,12 +3,12 @@
 ghost use Rattle.std.specs.Prelude.{◌≡◌, ◌≤◌, ◌<◌, ◌-◌, true, Some, IsSome, length};
 ghost use Rattle.cil_model.specs.declared.phases.Phase.TheVariants.{Allocate, Copy};
 ghost use Rattle.cil_model.specs.declared.trees.Tree.{Tree};
-ghost use Rattle.class_layout.specs.Laid.{IsLayout};
+ghost use Rattle.class_layout.specs.Layouts.{IsLayout};
 ghost use Rattle.object_memory.specs.Cells.{Cell, cell_in};
 ghost use Rattle.object_memory.specs.Spaces.{AreSpaces, cell_at, slots_at};
 ghost use Rattle.collector.specs.Attempts.{has_loaded, is_same_monitor, with_loaded};
 ghost use Rattle.collector.specs.Conditions.{IsForwardable, IsReadable, IsSoundFor, IsSoundIn, found_at};
-ghost use Rattle.collector.specs.Copying.{after_word, copied_on, looked_on, needs_copy, word_checked, word_begun, word_stored};
+ghost use Rattle.collector.specs.CopySteps.{after_word, next_copy_step, next_shell_step, needs_copy, word_checked, word_begun, word_stored};
 ghost use Rattle.collector.specs.Soundness.{copied_word};
 
 use crate::progress::{Attempt, MOST_FAILED_CHECKS, Progress, Stage};
@@ -22,7 +22,7 @@ use object_memory::{Addr, Heap, Monitor, Value, ValueKind};
 /// slots, and no word yet. False where each object was looked at; nothing changes then.
 pub fn shell_step(progress: &mut Progress, heap: &mut Heap) -> bool
     requires { IsSoundIn Allocate progress.old heap.old }
-    ensures { (progress.new, heap.new, result) ≡ looked_on progress.old heap.old }
+    ensures { (progress.new, heap.new, result) ≡ next_shell_step progress.old heap.old }
 {
     let Some(object) = heap.old_at(progress.cursor) else {
         return false;
@@ -48,7 +48,7 @@ fn needs_copy(heap: &Heap, object: Addr) -> bool
 /// passed over in the same step. False where no word is left; nothing changes then. (Hudson and Moss, "Sapphire".)
 pub fn copy_step(progress: &mut Progress, heap: &mut Heap, layout: &Layout) -> bool
     requires { IsSoundFor layout.now Copy progress.old heap.old }
-    ensures { (tree : Tree) → IsLayout tree layout.now → (progress.new, heap.new, result) ≡ copied_on tree progress.old heap.old }
+    ensures { (tree : Tree) → IsLayout tree layout.now → (progress.new, heap.new, result) ≡ next_copy_step tree progress.old heap.old }
 {
     let Some(twin) = next_copied(heap, progress.cursor) else {
         return false;

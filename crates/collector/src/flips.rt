@@ -3,8 +3,8 @@
 ghost use Rattle.std.specs.Prelude.{◌≡◌, ◌<◌, ◌^◌, [], true, length};
 ghost use Rattle.space_block.specs.Rows.{blank};
 ghost use Rattle.cil_model.specs.declared.phases.Phase.TheVariants.{Reclaim};
-ghost use Rattle.collector.specs.Conditions.{AreThere, IsSoundIn};
-ghost use Rattle.collector.specs.Flips.{cleared_on, flipped_on, retire_old};
+ghost use Rattle.collector.specs.Conditions.{AreValuesInHeap, IsSoundIn};
+ghost use Rattle.collector.specs.Flips.{next_clear_step, next_flip_step, retire_old};
 
 use crate::progress::Progress;
 use crate::walks::next_noted;
@@ -15,9 +15,9 @@ use space_block::Block;
 /// Flips the next static field: a reference becomes its forward, and an integer stays. False where each field was flipped; nothing
 /// changes then.
 pub fn flip_static_step(progress: &mut Progress, heap: &Heap, statics: &mut [Value]) -> bool
-    requires there { AreThere heap.now statics.old }
+    requires there { AreValuesInHeap heap.now statics.old }
     requires few { length statics.old < 2 ^ 32 }
-    ensures { (progress.new, statics.new, result) ≡ flipped_on progress.old heap.now statics.old }
+    ensures { (progress.new, statics.new, result) ≡ next_flip_step progress.old heap.now statics.old }
 {
     let number = progress.flipped_statics as usize;
     if number >= statics.len() {
@@ -32,7 +32,7 @@ pub fn flip_static_step(progress: &mut Progress, heap: &Heap, statics: &mut [Val
 /// same step. False where none has; nothing changes then.
 pub fn clear_step(progress: &mut Progress, heap: &mut Heap) -> bool
     requires { IsSoundIn Reclaim progress.old heap.old }
-    ensures { (progress.new, heap.new, result) ≡ cleared_on progress.old heap.old }
+    ensures { (progress.new, heap.new, result) ≡ next_clear_step progress.old heap.old }
 {
     let Some(next) = next_noted(heap, progress.cursor) else {
         return false;

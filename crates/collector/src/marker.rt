@@ -3,10 +3,10 @@
 ghost use Rattle.std.specs.Prelude.{◌≡◌, true, Some};
 ghost use Rattle.cil_model.specs.declared.phases.Phase.TheVariants.{Mark};
 ghost use Rattle.cil_model.specs.declared.trees.Tree.{Tree};
-ghost use Rattle.class_layout.specs.Laid.{IsLayout};
+ghost use Rattle.class_layout.specs.Layouts.{IsLayout};
 ghost use Rattle.object_memory.specs.Cells.{Cell, cell_in};
-ghost use Rattle.collector.specs.Conditions.{AreThere, IsReadable, IsSoundFor};
-ghost use Rattle.collector.specs.Marking.{is_closed, marked_on, slot_scanned, statics_scanned, with_all_marked};
+ghost use Rattle.collector.specs.Conditions.{AreValuesInHeap, IsReadable, IsSoundFor};
+ghost use Rattle.collector.specs.MarkSteps.{is_closed, next_mark_step, slot_scanned, statics_scanned, with_all_marked};
 
 use crate::progress::Progress;
 use crate::references::holds_reference;
@@ -18,7 +18,7 @@ use phase_handshake::Posts;
 /// Marks what the static fields refer to, all of them in one step. They are roots: a store to one later marks what it stores.
 pub fn scan_statics(progress: &mut Progress, heap: &mut Heap, statics: &[Value])
     requires open { heap.old.spaces.is_open ≡ true }
-    requires there { AreThere heap.old statics.now }
+    requires there { AreValuesInHeap heap.old statics.now }
     ensures { (progress.new, heap.new) ≡ statics_scanned progress.old heap.old statics.now }
 {
     mark_values(heap, statics);
@@ -28,7 +28,7 @@ pub fn scan_statics(progress: &mut Progress, heap: &mut Heap, statics: &[Value])
 /// Marks what values refer to, as those that the frames of a thread hold. Nothing else changes.
 pub fn mark_values(heap: &mut Heap, values: &[Value])
     requires open { heap.old.spaces.is_open ≡ true }
-    requires there { AreThere heap.old values.now }
+    requires there { AreValuesInHeap heap.old values.now }
     ensures { heap.new ≡ with_all_marked heap.old values.now }
 {
     for value in values {
@@ -40,7 +40,7 @@ pub fn mark_values(heap: &mut Heap, values: &[Value])
 /// False where no object is grey; nothing changes then.
 pub fn mark_step(progress: &mut Progress, heap: &mut Heap, layout: &Layout) -> bool
     requires { IsSoundFor layout.now Mark progress.old heap.old }
-    ensures { (tree : Tree) → IsLayout tree layout.now → (progress.new, heap.new, result) ≡ marked_on tree progress.old heap.old }
+    ensures { (tree : Tree) → IsLayout tree layout.now → (progress.new, heap.new, result) ≡ next_mark_step tree progress.old heap.old }
 {
     let Some(oldest) = heap.grey_front() else {
         return false;

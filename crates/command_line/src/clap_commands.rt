@@ -15,14 +15,14 @@ use std::alloc::{AllocError, Global};
 
 /// What the explanation of a check is.
 const EXPLAIN_CHECK: &str =
-    "After a refusal, shows its place and its rule; after 'accepted', notes on the source";
+    "After a refusal, shows its location and its rule; after 'accepted', notes on the source";
 
 /// What the explanation of a run is.
 const EXPLAIN_RUN: &str =
-    "After a refusal, shows its place and its rule; after a run, what its live threads wait for";
+    "After a refusal, shows its location and its rule; after a run, what its live threads wait for";
 
 const EXPLAIN_EXPLORATION: &str =
-    "After a refusal, shows its place and its rule; draws the schedule of each outcome in columns";
+    "After a refusal, shows its location and its rule; draws the schedule of each outcome in columns";
 
 /// The greatest value of `--states`.
 pub(crate) const MOST_STATES: u32 = 1_000_000;

@@ -3,7 +3,7 @@
 ghost use Rattle.std.specs.Prelude.{◌≡◌, ◌≢◌, None, IfOk, IfSome, IsSome, OnOk};
 ghost use Rattle.reading_explanations.specs.cil_model.Sources.{HasTree, IsAnswer};
 ghost use Rattle.reading_explanations.specs.cil_model.declared.trees.Tree.{Tree};
-ghost use Rattle.acceptance.specs.Sources.{IsLetIn};
+ghost use Rattle.acceptance.specs.Sources.{HasAcceptedTree};
 ghost use Rattle.acceptance.specs.declared.errors.SourceError.TheVariants.{OutOfMemory};
 
 use acceptance::{SourceError, examine};
@@ -100,8 +100,8 @@ pub fn explain_error(
 /// Why a source is refused: the text that `explain_error` has for the error of `examine`. None exactly where the source is accepted. Fails only when
 /// out of memory.
 pub fn explain(alloc: Global, file: &str, source: &[u8]) -> Result<Option<String>, NoMemory>
-    ensures accepted { IfOk result (λ text. text ≡ None → IsLetIn source.now) }
-    ensures refused { IfOk result (λ text. IsSome text → IsLetIn source.now → ⊥) }
+    ensures accepted { IfOk result (λ text. text ≡ None → HasAcceptedTree source.now) }
+    ensures refused { IfOk result (λ text. IsSome text → HasAcceptedTree source.now → ⊥) }
 {
     answers_are_unique();
     match examine(alloc, source) {

@@ -1,6 +1,6 @@
 -- What a run shows: what its machine shows, and what explains how threads ended.
 use Rattle.std.proofs.Common.{◌++◌, ℕ, Bool, List, append_assoc, inr, map, refl, subst}
-use Rattle.driver.proofs.Names.{zip, Event, Limits, Report, Fails, Taken, Takes, fails_second, takes_both, MachineState, end_of, IsEndText, IsMachineShown, IsMachineShownInPart, IsRunShown, IsRunShownInPart, OutputState, lines_from}
+use Rattle.driver.proofs.Names.{zip, Event, Limits, Report, Fails, StreamState, Takes, fails_second, takes_both, MachineState, end_of, IsEndText, IsMachineShown, IsMachineShownInPart, IsRunShown, IsRunShownInPart, OutputState, lines_from}
 use Rattle.driver.proofs.OutcomeLemmas.{live_text}
 
 module _ (explain : Bool) (source : List ℕ) (limits : Limits) (events : List Event) (reports : List Report) (c : MachineState) (o m : OutputState) where
@@ -13,7 +13,7 @@ module _ (explain : Bool) (source : List ℕ) (limits : Limits) (events : List E
   live_run status (live, explains, shown) = (live, live_text explain explain source limits (zip events reports) c live explains, shown)
 
   -- what explains how threads ended is written too
-  pub whole_run : (err' : Taken) (status : ℕ) → IsMachineShown explain c o m status
+  pub whole_run : (err' : StreamState) (status : ℕ) → IsMachineShown explain c o m status
       → (ended : List ℕ) × IsEndText explain source limits (zip events reports) ended × Takes m.err err' ended → IsRunShown explain source limits events reports c o (record m { err = err' }) status
   whole_run err' status (live, explains, shown) (ended, is_end, taken) =
       let lines = lines_from 0 (map end_of c.threads) in (
@@ -27,7 +27,7 @@ module _ (explain : Bool) (source : List ℕ) (limits : Limits) (events : List E
       )
 
   -- a write of that failed
-  pub ends_cut : (err' : Taken) (status : ℕ) → IsMachineShown explain c o m status
+  pub ends_cut : (err' : StreamState) (status : ℕ) → IsMachineShown explain c o m status
       → (ended : List ℕ) × IsEndText explain source limits (zip events reports) ended × Fails m.err err' ended → IsRunShownInPart explain source limits events reports c o (record m { err = err' })
   ends_cut err' status (live, explains, shown) (ended, is_end, cut) =
       let lines = lines_from 0 (map end_of c.threads) in (

@@ -1,7 +1,7 @@
 -- The first outcome of a list that differs, and why an exploration is not done.
 use Rattle.std.proofs.Common.{◌≡◌, ℕ, zero, suc, Bool, true, false, if◌then◌else◌, List, [], ◌∷◌, None, Some, slice_get, take, ap, refl, sym, ◌∙◌, inl, inr}
 use Rattle.outcome_search.specs.exploration.declared.found_outcomes.FoundOutcome.{FoundOutcome}
-use Rattle.driver.proofs.Names.{IsLetIn, Failure, Device, Limits, IsNotPictured, first_other, first_other_in, is_other, HasNotExplored}
+use Rattle.driver.proofs.Names.{HasAcceptedTree, Failure, Device, Limits, IsNotPictured, first_other, first_other_in, is_other, HasNotExplored}
 use Rattle.driver.proofs.Refusals.{not_run}
 
 -- one more outcome does not differ
@@ -43,7 +43,7 @@ first_other_at (f ∷ found) first there =
     ap (λ (g : FoundOutcome). first_other_in g.printed.items (f ∷ found)) same
 
 -- a source of which there is no text is not explored
-pub not_explored : (source : List ℕ) (limits : Limits) (failure : Failure) → IsLetIn source → IsNotPictured source limits failure → HasNotExplored source limits failure
+pub not_explored : (source : List ℕ) (limits : Limits) (failure : Failure) → HasAcceptedTree source → IsNotPictured source limits failure → HasNotExplored source limits failure
 not_explored source limits failure let_in (inl refused) = inl refused
 not_explored source limits failure let_in (inr memory) = inr (let_in, inl memory)
 

@@ -1,11 +1,11 @@
--- The names that the proofs of this crate cite, passed on from one place. Declares nothing.
+-- The names that the proofs of this crate cite, re-exported by one module. Declares nothing.
 pub use Rattle.cil_model.specs.declared.events.Event.{Event}
 pub use Rattle.cil_model.specs.declared.limits.Limits.{Limits}
 pub use Rattle.cil_model.specs.declared.reports.End.{End}
 pub use Rattle.cil_model.specs.declared.reports.Report.{Report}
 pub use Rattle.commands.specs.Orders.{event_count, record_file_of}
 pub use Rattle.driver.specs.Explorations.{IsNotPictured, first_other, first_other_in, is_other, HasExplored, AreSaved, status_of_exploration, IsOutcomeText, IsShownBelow}
-pub use Rattle.driver.specs.Outcomes.{IsEndText, IsMachineShown, IsMachineShownInPart, IsRunShown, IsRunShownInPart, HasNotExplored, AreCut, AreEndsExplainedFor, AreNotesShownInPart, AreThreadsExplained, HasRunSource, HasTraced, IsExplanation, IsRun, IsRunInPart, IsRunText, IsShown, IsThreadText, IsTracedThenInPart, status_after, stop_text, AreThreadsShown, AreThreadsShownInPart, HasDrawn, IsPicturedThenInPart, IsRunDrawn, HasRunThreads, HaveEnded, IsOutcome, IsRunByWorkers, IsRunByWorkersInPart, IsRunDone, HasNotTraced, IsPictureCut, IsNotChecked, IsDrawn, IsDrawnInPart, IsTracedUpTo, HasNotRun, HasNotRunThreads, flip_text, IsTraceInPart}
+pub use Rattle.driver.specs.Outcomes.{IsEndText, IsMachineShown, IsMachineShownInPart, IsRunShown, IsRunShownInPart, HasNotExplored, AreCut, AreEndsExplainedFor, AreNotesShownInPart, AreThreadsExplained, HasRunSource, HasTraced, IsExplanation, IsRun, IsRunInPart, IsRunText, IsShown, IsThreadText, IsTracedAndRunInPart, status_after, stop_text, AreThreadsShown, AreThreadsShownInPart, HasDrawn, IsPicturedAndRunInPart, IsRunDrawn, HasRunThreads, HaveEnded, IsOutcome, IsRunByWorkers, IsRunByWorkersInPart, IsRunDone, HasNotTraced, IsPictureCut, IsNotChecked, IsDrawn, IsDrawnInPart, IsTracedUpTo, HasNotRun, HasNotRunThreads, flip_text, IsTraceInPart}
 pub use Rattle.driver.specs.Outputs.{OutputState, HasBroken, IsGivenUp, IsUntouched, output_state}
 pub use Rattle.driver.specs.Pictures.{window_of, too_many_text}
 pub use Rattle.driver.specs.Records.{IsRecordOf, is_short, status_with, texts_in, texts_over, too_long_text, texts_of}
@@ -14,8 +14,8 @@ pub use Rattle.driver.specs.Statistics.{IsMostOfRun, stats_text}
 pub use Rattle.driver.specs.Threads.{lines_from, ends_of, status_of, line_of, is_live, end_text}
 pub use Rattle.event_trace.specs.MethodPositions.{ArePositionsOf}
 pub use Rattle.event_trace.specs.Traces.{IsTraced, IsTracedInPart}
-pub use Rattle.outputs.proofs.TakenLaws.{fails_second, takes_both, fails_first}
-pub use Rattle.outputs.specs.Taken.{Fails, Taken, Takes, HasGrown}
+pub use Rattle.outputs.proofs.StreamLaws.{fails_second, takes_both, fails_first}
+pub use Rattle.outputs.specs.Streams.{Fails, StreamState, Takes, HasGrown}
 pub use Rattle.run_files.specs.RunFiles.{run_file}
 pub use Rattle.run_files.specs.declared.file.RunFile.{RunFile}
 pub use Rattle.run_picture.specs.Pictures.{IsPicture, IsPictureInPart}
@@ -28,7 +28,7 @@ pub use Rattle.source_runs.proofs.interleaving_core.Runs.LongerRuns.{has_done}
 pub use Rattle.source_runs.proofs.simulation.Representation.VisibleState.{ends_refine, printed_refines}
 pub use Rattle.source_runs.specs.Runs.{IsPrintedUpTo, IsReady, IsRunBy, IsNotRunBy}
 pub use Rattle.source_runs.specs.acceptance.Failures.{IsOfWriting, is_refusal, failure_of_schedule, message_of}
-pub use Rattle.source_runs.specs.acceptance.Sources.{IsLetIn, IsNotAccepted, IsNotRun, HasRunTo}
+pub use Rattle.source_runs.specs.acceptance.Sources.{HasAcceptedTree, IsNotAccepted, IsNotRun, HasRunTo}
 pub use Rattle.source_runs.specs.acceptance.declared.failure.Failure.{Failure}
 pub use Rattle.source_runs.specs.acceptance.declared.failure.Failure.TheVariants.{Device, Memory}
 pub use Rattle.source_runs.specs.reference_machine.States.{State}

@@ -2,7 +2,7 @@
 use Rattle.std.proofs.Common.{◌≡◌, ◌⊎◌, ◌++◌, ℕ, Bool, true, false, List, [], map, None, Option, Result, Ok, Err, refl, ap, ap₂, sym, ◌∙◌, subst, inl, inr, append-nil}
 use Rattle.std.specs.Prelude.{IfErr, IfSome, OnErr}
 use Rattle.run_files.specs.declared.differences.Differences.{Differences}
-use Rattle.driver.proofs.Names.{zip, ends_refine, printed_refines, MachineState, RefinesAfter, Represents, end_of, State, Event, Limits, Report, IsOfWriting, is_refusal, Failure, Memory, Device, IsTraced, IsPrintedUpTo, IsReady, IsRunBy, HasBroken, IsGivenUp, IsUntouched, OutputState, AreCut, AreEndsExplainedFor, AreNotesShownInPart, AreThreadsExplained, HasRunSource, HasTraced, IsEndText, IsExplanation, IsMachineShown, IsMachineShownInPart, IsRun, IsRunInPart, IsRunShown, IsRunShownInPart, IsRunText, IsShown, IsThreadText, IsTracedThenInPart, status_after, stop_text, differences_from, differences_text, status_if_same, IsMostOfRun, stats_text, RunFile, ends_of, lines_from, status_of, Fails, HasGrown, Taken, Takes, fails_first, fails_second, takes_both, results_in, has_done, HasDone}
+use Rattle.driver.proofs.Names.{zip, ends_refine, printed_refines, MachineState, RefinesAfter, Represents, end_of, State, Event, Limits, Report, IsOfWriting, is_refusal, Failure, Memory, Device, IsTraced, IsPrintedUpTo, IsReady, IsRunBy, HasBroken, IsGivenUp, IsUntouched, OutputState, AreCut, AreEndsExplainedFor, AreNotesShownInPart, AreThreadsExplained, HasRunSource, HasTraced, IsEndText, IsExplanation, IsMachineShown, IsMachineShownInPart, IsRun, IsRunInPart, IsRunShown, IsRunShownInPart, IsRunText, IsShown, IsThreadText, IsTracedAndRunInPart, status_after, stop_text, differences_from, differences_text, status_if_same, IsMostOfRun, stats_text, RunFile, ends_of, lines_from, status_of, Fails, HasGrown, StreamState, Takes, fails_first, fails_second, takes_both, results_in, has_done, HasDone}
 
 pub for_err : {T E : Type 0} {P : Type 0} (r : Result T E) → P → IfErr r (λ _. P)
 for_err (Ok x) p = tt
@@ -53,7 +53,7 @@ cut_more first second more o o' (inl cut) = inl cut
 cut_more first second more o o' (inr cut) = inr (cut.0, fails_first o.err o'.err second more cut.1)
 
 -- both texts are written, and a write of more failed
-pub cut_after : (first second more : List ℕ) (o m : OutputState) (err' : Taken) → Takes o.out m.out first → Takes o.err m.err second → Fails m.err err' more
+pub cut_after : (first second more : List ℕ) (o m : OutputState) (err' : StreamState) → Takes o.out m.out first → Takes o.err m.err second → Fails m.err err' more
     → AreCut first (second ++ more) o (record m { err = err' })
 cut_after first second more o m err' taken shown cut = inr (taken, fails_second o.err m.err err' second more shown cut)
 
@@ -63,12 +63,12 @@ cut_breaks first second o o' (inl cut) = inl cut.0.1
 cut_breaks first second o o' (inr cut) = inr cut.1.1
 
 -- a write failed after one output had taken something
-pub breaks_later : (o : OutputState) (between : Taken) (o' : OutputState) → between.failures ≡ o.out.failures → HasBroken (record o { out = between }) o' → HasBroken o o'
+pub breaks_later : (o : OutputState) (between : StreamState) (o' : OutputState) → between.failures ≡ o.out.failures → HasBroken (record o { out = between }) o' → HasBroken o o'
 breaks_later o between o' same (inl grown) = inl (subst (λ n. HasGrown n o'.out.failures) same grown)
 breaks_later o between o' same (inr grown) = inr grown
 
 -- where a write of the notes failed, a call of that output failed
-pub notes_break : (explain : Bool) (err err' : Taken) → AreNotesShownInPart explain err err' → HasGrown err.failures err'.failures
+pub notes_break : (explain : Bool) (err err' : StreamState) → AreNotesShownInPart explain err err' → HasGrown err.failures err'.failures
 notes_break true err err' (notes, cut) = cut.1
 notes_break false err err' none = absurd none
 
@@ -120,7 +120,7 @@ module _ (source : List ℕ) (limits : Limits) (text : List ℕ) (most : Option 
   last = stop_text stopped ++ differences_text d ++ stats_text stats done reports c most_words
 
   -- all that it shows is written
-  pub has_run : (o m : OutputState) (err' : Taken) (before status : ℕ) → IsRunShown explain source limits done reports c o m before → m.texts ≡ o.texts
+  pub has_run : (o m : OutputState) (err' : StreamState) (before status : ℕ) → IsRunShown explain source limits done reports c o m before → m.texts ≡ o.texts
       → (status ≡ status_after stopped (status_if_same d before)) × Takes m.err err' last → HasRunSource source limits text most expected explain stats o (record m { err = err' }) status
   has_run o m err' before status (more, explains, shown) same (after, stop) =
       let lines = lines_from 0 (map end_of c.threads) ++ more in
@@ -154,7 +154,7 @@ module _ (source : List ℕ) (limits : Limits) (text : List ℕ) (most : Option 
   run_in_part o o' (more, explains, cut) = lines_in_part explain more o o' explains cut
 
   -- a write failed of what comes last
-  pub run_then_in_part : (o m : OutputState) (err' : Taken) (before : ℕ) → IsRunShown explain source limits done reports c o m before → Fails m.err err' last
+  pub run_then_in_part : (o m : OutputState) (err' : StreamState) (before : ℕ) → IsRunShown explain source limits done reports c o m before → Fails m.err err' last
       → IsRunInPart source limits text most expected explain stats explain o (record m { err = err' })
   run_then_in_part o m err' before (more, explains, shown) stop =
       let lines = lines_from 0 (map end_of c.threads) ++ more in
@@ -168,7 +168,7 @@ module _ (source : List ℕ) (limits : Limits) (text : List ℕ) (most : Option 
 
 -- ---- what a trace shows
 
-module _ (source : List ℕ) (limits : Limits) (text : List ℕ) (explain : Bool) (events : List Event) (begins after : MachineState) (reports : List Report) (o : OutputState) (between : Taken) (o' : OutputState)
+module _ (source : List ℕ) (limits : Limits) (text : List ℕ) (explain : Bool) (events : List Event) (begins after : MachineState) (reports : List Report) (o : OutputState) (between : StreamState) (o' : OutputState)
     (ready : IsReady source limits text events begins) (traced : IsTraced begins events after reports o.out.contents between.contents) where
   abbrev done : HasDone ready.tree limits events reports after
   done = has_done ready.tree limits begins after events reports ready.is_accepted.accepted ready.in_range ready.opened.begins traced.transitions
@@ -178,7 +178,7 @@ module _ (source : List ℕ) (limits : Limits) (text : List ℕ) (explain : Bool
   by = record { events = events; are_read = ready.are_read; are_done = record { rest = []; are = sym (append-nil events); all = λ none. refl }; ran = (ready.tree, ready.is_accepted, done) }
 
   -- a write of what the machine shows failed
-  pub traced_in_part : IsMachineShownInPart explain after (record o { out = between }) o' → IsTracedThenInPart source limits text explain o o'
+  pub traced_in_part : IsMachineShownInPart explain after (record o { out = between }) o' → IsTracedAndRunInPart source limits text explain o o'
   traced_in_part left = record {
     events = events;
     begins = begins;

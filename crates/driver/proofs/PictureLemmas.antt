@@ -1,7 +1,7 @@
 -- What a run that is drawn, whole or in part, shows of its source.
 use Rattle.std.proofs.Common.{◌≡◌, ◌++◌, ◌≤◌, ℕ, Bool, List, length, subst, ◌∙◌, ap}
 use Rattle.commands.specs.declared.part.Part.{Part}
-use Rattle.driver.proofs.Names.{ends_refine, MachineState, IsReady, has_done, HasDone, Event, Limits, Report, event_count, Fails, Takes, IsPicture, MOST_EVENTS, AreThreadsShown, AreThreadsShownInPart, HasDrawn, IsPicturedThenInPart, IsRunDrawn, IsThreadText, OutputState, window_of, lines_from, status_of}
+use Rattle.driver.proofs.Names.{ends_refine, MachineState, IsReady, has_done, HasDone, Event, Limits, Report, event_count, Fails, Takes, IsPicture, MOST_EVENTS, AreThreadsShown, AreThreadsShownInPart, HasDrawn, IsPicturedAndRunInPart, IsRunDrawn, IsThreadText, OutputState, window_of, lines_from, status_of}
 
 module _ (source : List ℕ) (limits : Limits) (text : List ℕ) (part : Part) (explain : Bool) (events : List Event) (begins after : MachineState) (reports : List Report) (o o' : OutputState)
     (ready : IsReady source limits text events begins) (few : event_count part (length events) ≤ MOST_EVENTS)
@@ -42,7 +42,7 @@ module _ (source : List ℕ) (limits : Limits) (text : List ℕ) (part : Part) (
       }
 
   -- what it shows where a write of that fails
-  pub drawn_in_part : AreThreadsShownInPart explain after o.err o'.err → IsPicturedThenInPart source limits text part explain o o'
+  pub drawn_in_part : AreThreadsShownInPart explain after o.err o'.err → IsPicturedAndRunInPart source limits text part explain o o'
   unfolding drawn
   drawn_in_part shown = record {
     drawn = drawn shown.0 shown.1;

@@ -16,7 +16,7 @@ use Rattle.commands.specs.declared.run.Run.{Run}
 use Rattle.commands.specs.declared.run.RunKind.{RunKind}
 use Rattle.commands.specs.declared.run.RunKind.TheVariants.{Schedule, Replay, Workers}
 use Rattle.commands.specs.Runs.{record_file_of_kind}
-use Rattle.driver.proofs.Names.{count_by, list_all, list_any, zip, Event, Limits, End, has_thread_number, Fails, Taken, Takes, takes_both, ends_refine, printed_refines, HasRunTo, IsPrintedUpTo, results_in, events_of, reports_of, MachineState, RefinesAfter, end_of, is_live_thread, HasEnded, IsOwn, IsOwnOf, Represents, State, record_file_of, AreCut, HasRunThreads, HaveEnded, IsOutcome, IsRunByWorkers, IsRunByWorkersInPart, IsRunDone, IsRunShown, IsRunShownInPart, IsRunText, status_after, stop_text, OutputState, IsRecordOf, is_short, status_with, texts_in, texts_over, too_long_text, IsMostOfRun, stats_text, is_live, lines_from, status_of, run_file, RunFile}
+use Rattle.driver.proofs.Names.{count_by, list_all, list_any, zip, Event, Limits, End, has_thread_number, Fails, StreamState, Takes, takes_both, ends_refine, printed_refines, HasRunTo, IsPrintedUpTo, results_in, events_of, reports_of, MachineState, RefinesAfter, end_of, is_live_thread, HasEnded, IsOwn, IsOwnOf, Represents, State, record_file_of, AreCut, HasRunThreads, HaveEnded, IsOutcome, IsRunByWorkers, IsRunByWorkersInPart, IsRunDone, IsRunShown, IsRunShownInPart, IsRunText, status_after, stop_text, OutputState, IsRecordOf, is_short, status_with, texts_in, texts_over, too_long_text, IsMostOfRun, stats_text, is_live, lines_from, status_of, run_file, RunFile}
 use Rattle.driver.proofs.OutcomeLemmas.{cut_after, cut_more}
 use Rattle.driver.specs.declared.recording.Record.{Record}
 use Rattle.driver.specs.declared.recording.Record.TheVariants.{Unasked, Texts, TooLong, NoMemory}
@@ -120,7 +120,7 @@ module _ (source : List ℕ) (limits : Limits) (workers : ℕ) (stop_at : StopAt
       }
 
   -- a write of what comes last failed
-  pub threads_then_in_part : (o m : OutputState) (err' : Taken) (before : ℕ)
+  pub threads_then_in_part : (o m : OutputState) (err' : StreamState) (before : ℕ)
       → IsRunShown explain source limits (events_of h) (reports_of h) c o m before → Fails m.err err' last
       → IsRunByWorkersInPart source limits workers stop_at most asked explain stats o (record m { err = err' })
   threads_then_in_part o m err' before (text, explains, shown) failed =

@@ -24,7 +24,7 @@ use Rattle.outcome_text.specs.declared.summaries.Coverage.{Coverage}
 use Rattle.outcome_text.specs.declared.summaries.Coverage.TheVariants.{AllSchedules, FewPreemptions, Stopped}
 use Rattle.outcome_text.specs.declared.summaries.Summary.{Summary}
 use Rattle.commands.specs.declared.extents.Extent.{Extent}
-use Rattle.outputs.specs.Taken.{Fails, Takes}
+use Rattle.outputs.specs.Streams.{Fails, Takes}
 use Rattle.run_files.specs.RunFiles.{run_file, text_of}
 use Rattle.driver.specs.Outputs.{OutputState}
 use Rattle.driver.specs.Records.{texts_over}

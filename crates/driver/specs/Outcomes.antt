@@ -10,7 +10,7 @@ use Rattle.event_trace.specs.Texts.{threads_text}
 use Rattle.event_trace.specs.Traces.{IsTraced, IsTracedInPart}
 use Rattle.event_trace.specs.declared.errors.TraceError.{TraceError}
 use Rattle.event_trace.specs.declared.errors.TraceError.TheVariants.{Memory as MemoryRanOut, Device as CantWrite}
-use Rattle.source_runs.specs.simulation.Retained.{LeavesOnlyRetained}
+use Rattle.source_runs.specs.simulation.RetainedObjects.{LeavesOnlyRetained}
 use Rattle.source_runs.specs.simulation.Refines.{Represents}
 use Rattle.source_runs.specs.simulation.threads_monitors.Threads.{end_of}
 use Rattle.cil_model.specs.declared.events.Event.{Event}
@@ -21,7 +21,7 @@ use Rattle.cil_model.specs.declared.reports.Report.{Report}
 use Rattle.source_runs.specs.simulation.MachineStates.{MachineState}
 use Rattle.source_runs.specs.acceptance.Failures.{is_refusal, message_of}
 use Rattle.source_runs.specs.acceptance.Failures.{IsOfWriting, status_of_failure}
-use Rattle.outputs.specs.Taken.{Fails, Taken, Takes}
+use Rattle.outputs.specs.Streams.{Fails, StreamState, Takes}
 use Rattle.commands.specs.GivenLimits.{limits_for}
 use Rattle.commands.specs.Orders.{event_count, is_explained}
 use Rattle.commands.specs.declared.part.Part.{Part}
@@ -49,7 +49,7 @@ use Rattle.commands.specs.declared.order.Order.TheVariants.{Check, Run as RunOrd
 use Rattle.commands.specs.declared.run.Run.{Run}
 use Rattle.commands.specs.declared.run.RunKind.{RunKind}
 use Rattle.commands.specs.declared.run.RunKind.TheVariants.{Schedule, Replay, Workers}
-use Rattle.source_runs.specs.acceptance.Sources.{IsLetIn, IsMade, IsNotAccepted, IsNotRun, IsOpened}
+use Rattle.source_runs.specs.acceptance.Sources.{HasAcceptedTree, IsMade, IsNotAccepted, IsNotRun, IsOpened}
 use Rattle.source_runs.specs.Runs.{IsNotRunBy, IsPrintedUpTo, ResultsIn, ResultsInBy, IsReady}
 use Rattle.source_runs.specs.shared_machine.Worlds.{AreDoneOf}
 use Rattle.schedule_text.specs.Items.{words}
@@ -110,12 +110,12 @@ IsRunShownInPart explain source limits events reports c o o' =
     (text : List ℕ) × IsRunText explain explain source limits (zip events reports) c text × AreCut c.printed (lines_from 0 (map end_of c.threads) ++ text) o o'
 
 -- how the threads of a machine stand is shown, and what explains that; and the status
-abbrev pub AreThreadsShown : Bool → MachineState → Taken → Taken → ℕ → Type 0
+abbrev pub AreThreadsShown : Bool → MachineState → StreamState → StreamState → ℕ → Type 0
 AreThreadsShown explain c err err' status =
     (text : List ℕ) × IsThreadText explain c text × Takes err err' (lines_from 0 (map end_of c.threads) ++ text) × (status ≡ status_of (map end_of c.threads))
 
 -- a write of that failed
-abbrev pub AreThreadsShownInPart : Bool → MachineState → Taken → Taken → Type 0
+abbrev pub AreThreadsShownInPart : Bool → MachineState → StreamState → StreamState → Type 0
 AreThreadsShownInPart explain c err err' =
     (text : List ℕ) × IsThreadText explain c text × Fails err err' (lines_from 0 (map end_of c.threads) ++ text)
 
@@ -141,29 +141,29 @@ abbrev pub accepted_text : List ℕ
 accepted_text = codes "accepted" ++ 10 ∷ []
 
 -- the notes on an accepted source are written where explanations are asked for, and else nothing
-abbrev pub AreNotesShown : Bool → Taken → Taken → Type 0
+abbrev pub AreNotesShown : Bool → StreamState → StreamState → Type 0
 AreNotesShown false err err' = err' ≡ err
 AreNotesShown true err err' = (notes : List ℕ) × Takes err err' notes
 
 -- a write of the notes failed
-abbrev pub AreNotesShownInPart : Bool → Taken → Taken → Type 0
+abbrev pub AreNotesShownInPart : Bool → StreamState → StreamState → Type 0
 AreNotesShownInPart false err err' = ⊥
 AreNotesShownInPart true err err' = (notes : List ℕ) × Fails err err' notes
 
 -- a check is done: the one line that it prints, and the notes on the source
 abbrev pub IsChecked : List ℕ → Bool → OutputState → OutputState → ℕ → Type 0
 IsChecked source explain o o' status =
-    IsLetIn source × Takes o.out o'.out accepted_text × AreNotesShown explain o.err o'.err × (status ≡ 0) × (o'.texts ≡ o.texts)
+    HasAcceptedTree source × Takes o.out o'.out accepted_text × AreNotesShown explain o.err o'.err × (status ≡ 0) × (o'.texts ≡ o.texts)
 
 -- a write failed of the line that a check prints, or of the notes after it
 abbrev pub IsCheckedInPart : List ℕ → Bool → OutputState → OutputState → Type 0
 IsCheckedInPart source explain o o' =
-    IsLetIn source × ((Fails o.out o'.out accepted_text × (o'.err ≡ o.err)) ⊎ (Takes o.out o'.out accepted_text × AreNotesShownInPart explain o.err o'.err))
+    HasAcceptedTree source × ((Fails o.out o'.out accepted_text × (o'.err ≡ o.err)) ⊎ (Takes o.out o'.out accepted_text × AreNotesShownInPart explain o.err o'.err))
 
 -- why a check is not done
 abbrev pub IsNotChecked : List ℕ → Failure → Type 0
 IsNotChecked source failure =
-    IsNotAccepted source failure ⊎ (IsLetIn source × IsOfWriting failure)
+    IsNotAccepted source failure ⊎ (HasAcceptedTree source × IsOfWriting failure)
 
 -- what is reported after the lines of the threads where a run was stopped since memory ran out
 abbrev pub stop_text : Bool → List ℕ
@@ -205,11 +205,11 @@ pub record HasRunSource (source : List ℕ) (limits : Limits) (text : List ℕ) 
 
 -- why a run is not done: it has not begun, or a write failed
 abbrev pub HasNotRun : List ℕ → Limits → List ℕ → Failure → Type 0
-HasNotRun source limits text failure = IsNotRunBy source limits text failure ⊎ (IsLetIn source × (failure ≡ Device))
+HasNotRun source limits text failure = IsNotRunBy source limits text failure ⊎ (HasAcceptedTree source × (failure ≡ Device))
 
 -- why a run is not traced or drawn: it has not begun, memory ran out, or a write failed
 abbrev pub HasNotTraced : List ℕ → Limits → List ℕ → Failure → Type 0
-HasNotTraced source limits text failure = IsNotRunBy source limits text failure ⊎ (IsLetIn source × IsOfWriting failure)
+HasNotTraced source limits text failure = IsNotRunBy source limits text failure ⊎ (HasAcceptedTree source × IsOfWriting failure)
 
 -- what the error of a trace becomes
 abbrev pub failure_of_tracing : TraceError → Failure
@@ -227,7 +227,7 @@ pub record HasTraced (source : List ℕ) (limits : Limits) (text : List ℕ) (ex
   pub begins : MachineState
   pub opened : IsOpened results_in.by_events.tree limits begins
   pub after : MachineState
-  pub between : Taken
+  pub between : StreamState
   pub traced : IsTraced begins events after reports o.out.contents between.contents
   pub represents : Represents after state
   pub leaves : LeavesOnlyRetained results_in.by_events.tree limits events reports after
@@ -315,11 +315,11 @@ pub record HasRunThreads (source : List ℕ) (limits : Limits) (workers : ℕ) (
 
 -- why a run by workers is not done: it has not begun, or a write failed
 abbrev pub HasNotRunThreads : List ℕ → Limits → Failure → Type 0
-HasNotRunThreads source limits failure = IsNotRun source limits failure ⊎ (IsLetIn source × (failure ≡ Device))
+HasNotRunThreads source limits failure = IsNotRun source limits failure ⊎ (HasAcceptedTree source × (failure ≡ Device))
 
 -- why a source is not explored: there is no machine of it, memory ran out, or a write failed
 abbrev pub HasNotExplored : List ℕ → Limits → Failure → Type 0
-HasNotExplored source limits failure = IsNotRun source limits failure ⊎ (IsLetIn source × IsOfWriting failure)
+HasNotExplored source limits failure = IsNotRun source limits failure ⊎ (HasAcceptedTree source × IsOfWriting failure)
 
 -- a run is done: one by a schedule text takes it from the command line, a replay from the file; only workers leave a record
 abbrev pub IsRunDone : Run → List ℕ → List ℕ → RunKind → OutputState → OutputState → ℕ → Type 0
@@ -371,13 +371,13 @@ pub record IsTraceInPart (source : List ℕ) (limits : Limits) (text : List ℕ)
   pub silent : o'.err ≡ o.err
 
 -- a run is traced to its end, and shown in part
-pub record IsTracedThenInPart (source : List ℕ) (limits : Limits) (text : List ℕ) (explain : Bool) (o o' : OutputState) : Type 0 where
+pub record IsTracedAndRunInPart (source : List ℕ) (limits : Limits) (text : List ℕ) (explain : Bool) (o o' : OutputState) : Type 0 where
   pub events : List Event
   pub begins : MachineState
   pub ready : IsReady source limits text events begins
   pub after : MachineState
   pub reports : List Report
-  pub between : Taken
+  pub between : StreamState
   pub traced : IsTraced begins events after reports o.out.contents between.contents
   pub shown : IsRunInPart source limits text None None explain false false (record o { out = between }) o'
 
@@ -392,7 +392,7 @@ pub record IsPictureCut (source : List ℕ) (limits : Limits) (text : List ℕ) 
   pub silent : o'.err ≡ o.err
 
 -- a run is drawn, and a write of the states of its threads failed
-pub record IsPicturedThenInPart (source : List ℕ) (limits : Limits) (text : List ℕ) (part : Part) (explain : Bool) (o o' : OutputState) : Type 0 where
+pub record IsPicturedAndRunInPart (source : List ℕ) (limits : Limits) (text : List ℕ) (part : Part) (explain : Bool) (o o' : OutputState) : Type 0 where
   pub drawn : IsRunDrawn source limits text part explain o o'
   pub errors : Fails o.err o'.err (lines_from 0 (ends_of drawn.state) ++ drawn.explanation)
 
@@ -407,12 +407,12 @@ pub record IsTooManyInPart (source : List ℕ) (limits : Limits) (text : List �
 
 -- what a trace shows in part
 abbrev pub IsTracedUpTo : List ℕ → Limits → List ℕ → Bool → OutputState → OutputState → Type 0
-IsTracedUpTo source limits text explain o o' = IsTraceInPart source limits text o o' ⊎ IsTracedThenInPart source limits text explain o o'
+IsTracedUpTo source limits text explain o o' = IsTraceInPart source limits text o o' ⊎ IsTracedAndRunInPart source limits text explain o o'
 
 -- what a picture shows in part
 abbrev pub IsDrawnInPart : List ℕ → Limits → List ℕ → Part → Bool → OutputState → OutputState → Type 0
 IsDrawnInPart source limits text part explain o o' =
-    IsPictureCut source limits text part o o' ⊎ (IsPicturedThenInPart source limits text part explain o o' ⊎ IsTooManyInPart source limits text part o o')
+    IsPictureCut source limits text part o o' ⊎ (IsPicturedAndRunInPart source limits text part explain o o' ⊎ IsTooManyInPart source limits text part o o')
 
 -- a write failed of what a run by workers shows
 pub record IsRunByWorkersInPart (source : List ℕ) (limits : Limits) (workers : ℕ) (stop_at : StopAt) (most : Option ℕ) (asked explain stats : Bool) (o o' : OutputState) : Type 0 where
@@ -450,7 +450,7 @@ IsExplanation true text = Unit {0}
 -- an order is given up for a failure, and all that is to be reported of it is written: the status is the failure's
 pub record IsReported (order : Order) (source schedule : List ℕ) (o o' : OutputState) (status : ℕ) : Type 0 where
   pub failure : Failure
-  pub before : Taken
+  pub before : StreamState
   pub given_up : IsGivenUp (IsNotDone order source schedule) (IsDoneInPart order source schedule) o (record o' { err = before }) failure
   pub text : List ℕ
   pub explains : IsExplanation (has_explanation order failure) text
@@ -460,7 +460,7 @@ pub record IsReported (order : Order) (source schedule : List ℕ) (o o' : Outpu
 -- an order is given up for a failure, and a write failed that was to report it
 pub record IsReportCut (order : Order) (source schedule : List ℕ) (o o' : OutputState) : Type 0 where
   pub failure : Failure
-  pub before : Taken
+  pub before : StreamState
   pub given_up : IsGivenUp (IsNotDone order source schedule) (IsDoneInPart order source schedule) o (record o' { err = before }) failure
   pub text : List ℕ
   pub explains : IsExplanation (has_explanation order failure) text

@@ -1,6 +1,6 @@
 -- The outputs of a command, and how it is given up (this profile).
 use Rattle.std.specs.Prelude.{◌≡◌, ◌⊎◌, ℕ, true, List, None, Option}
-use Rattle.outputs.specs.Taken.{HasGrown, Taken}
+use Rattle.outputs.specs.Streams.{HasGrown, StreamState}
 use Rattle.source_runs.specs.acceptance.Failures.{is_refusal}
 use Rattle.source_runs.specs.acceptance.declared.failure.Failure.{Failure}
 use Rattle.source_runs.specs.acceptance.declared.failure.Failure.TheVariants.{Device}
@@ -9,16 +9,16 @@ use Rattle.driver.specs.declared.command_outputs.Outputs.{Outputs}
 
 -- what the standard output and the standard error have taken, and the texts of the files that are left: `o` before a command, and `o'` after it
 pub record OutputState : Type 0 where
-  pub out : Taken
-  pub err : Taken
+  pub out : StreamState
+  pub err : StreamState
   pub texts : Option (List ℕ × List ℕ)
 
 -- the state of the outputs of a command
-abbrev pub output_state : {W E : Type 0} → (W → Taken) → (E → Taken) → Outputs W E → OutputState
+abbrev pub output_state : {W E : Type 0} → (W → StreamState) → (E → StreamState) → Outputs W E → OutputState
 output_state out_taken err_taken outputs = record { out = out_taken outputs.out; err = err_taken outputs.err; texts = texts_of outputs.files }
 
 -- the state of two outputs, without files
-abbrev pub outputs_without_files : Taken → Taken → OutputState
+abbrev pub outputs_without_files : StreamState → StreamState → OutputState
 outputs_without_files out err = record { out = out; err = err; texts = None }
 
 -- neither output was written to

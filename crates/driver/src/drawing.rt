@@ -2,7 +2,7 @@
 
 ghost use Rattle.std.specs.Prelude.{◌≡◌, ◌⊎◌, ◌<◌, ◌≤◌, IfErr, IfOk, List, OnErr, OnOk, length, string_bytes, true};
 ghost use Rattle.cil_model.specs.declared.reports.Report.{Report};
-ghost use Rattle.outputs.specs.Taken.{Fails, HasGrown, Takes};
+ghost use Rattle.outputs.specs.Streams.{Fails, HasGrown, Takes};
 ghost use Rattle.run_picture.specs.Pictures.{IsPicture, IsPictureInPart};
 ghost use Rattle.schedule_text.specs.Items.{events_of};
 ghost use Rattle.schedule_text.specs.declared.errors.TheConstants.{MOST_EVENTS as MOST_SCHEDULED};

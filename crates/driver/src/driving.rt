@@ -3,10 +3,10 @@
 ghost use Rattle.std.specs.Prelude.{◌≡◌, IfErr, IfOk, List, None, OnErr, OnOk};
 ghost use Rattle.cil_model.specs.declared.reports.Report.{Report};
 ghost use Rattle.event_trace.specs.Traces.{IsTraced, IsTracedInPart};
-ghost use Rattle.outputs.specs.Taken.{HasGrown};
+ghost use Rattle.outputs.specs.Streams.{HasGrown};
 ghost use Rattle.schedule_text.specs.Items.{events_of};
 ghost use Rattle.source_runs.specs.acceptance.Failures.{IsOfWriting};
-ghost use Rattle.source_runs.specs.acceptance.Sources.{IsLetIn, IsNotAccepted};
+ghost use Rattle.source_runs.specs.acceptance.Sources.{HasAcceptedTree, IsNotAccepted};
 ghost use Rattle.source_runs.specs.acceptance.declared.failure.Failure.TheVariants.{Device as DeviceFailure};
 ghost use Rattle.commands.specs.Orders.{record_file_of};
 ghost use Rattle.driver.specs.Outcomes.{HasNotRun, HasNotTraced, HasRunSource, HasTraced, IsChecked, IsCheckedInPart, IsDone, IsDoneInPart, IsFlipDone, IsFlipDoneInPart};
@@ -245,7 +245,7 @@ fn run_flip<W: Out, E: Out>(
 
 /// Accepts a source, or leaves in `found` what was found of it.
 fn accept(alloc: Global, source: &[u8], found: &mut Option<SourceError>) -> Result<(), Failure>
-    ensures accepted { OnOk result (IsLetIn source.now) }
+    ensures accepted { OnOk result (HasAcceptedTree source.now) }
     ensures refused { IfErr result (IsNotAccepted source.now) }
 {
     match examine(alloc, source) {

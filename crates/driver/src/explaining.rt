@@ -1,7 +1,7 @@
 //! What a person needs where an order is refused, and notes on a source that is accepted.
 
 ghost use Rattle.std.specs.Prelude.{◌≡◌, ◌++◌, IfErr, IfOk, List, ℕ, OnErr, OnOk};
-ghost use Rattle.outputs.specs.Taken.{Fails, Takes};
+ghost use Rattle.outputs.specs.Streams.{Fails, Takes};
 ghost use Rattle.source_runs.specs.acceptance.Failures.{message_of, status_of_failure};
 ghost use Rattle.driver.specs.Outcomes.{AreNotesShown, AreNotesShownInPart, IsExplanation, has_explanation};
 

@@ -2,7 +2,7 @@
 
 ghost use Rattle.std.specs.Prelude.{◌≡◌, IfOk, IfSome, List, ℕ, OnErr, OnOk, string_bytes};
 ghost use Rattle.std.specs.List.{zip};
-ghost use Rattle.outputs.specs.Taken.{Fails, Takes};
+ghost use Rattle.outputs.specs.Streams.{Fails, Takes};
 ghost use Rattle.source_runs.specs.shared_machine.Histories.{events_of, reports_of};
 ghost use Rattle.driver.specs.Outcomes.{AreEndsExplainedFor, IsEndText, IsRunShown, IsRunShownInPart};
 ghost use Rattle.driver.specs.Outputs.{output_state};

@@ -3,7 +3,7 @@
 ghost use Rattle.std.specs.Prelude.{◌≡◌, ◌++◌, IfOk, IsTrue, List, OnErr, string_bytes, true};
 ghost use Rattle.std.specs.List.{list_all};
 ghost use Rattle.cil_model.specs.declared.events.Event.{Event};
-ghost use Rattle.outputs.specs.Taken.{Fails, Takes};
+ghost use Rattle.outputs.specs.Streams.{Fails, Takes};
 ghost use Rattle.run_files.specs.RunFiles.{run_file};
 ghost use Rattle.schedule_text.specs.Items.{has_thread_number};
 ghost use Rattle.schedule_text.specs.Writings.{IsWritten};

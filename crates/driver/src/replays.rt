@@ -1,7 +1,7 @@
 //! In what a replay differs from the recorded run.
 
 ghost use Rattle.std.specs.Prelude.{◌≡◌, OnErr, OnOk};
-ghost use Rattle.outputs.specs.Taken.{Fails, Takes};
+ghost use Rattle.outputs.specs.Streams.{Fails, Takes};
 ghost use Rattle.driver.specs.Replays.{differences_from, differences_text, line_if, status_if_same};
 
 use cil_model::limits::Limits;

@@ -2,7 +2,7 @@
 
 ghost use Rattle.std.specs.Prelude.{◌≡◌, ◌++◌, ◌∷◌, [], ℕ, codes, IfOk, List, OnErr, OnOk, map};
 ghost use Rattle.std.specs.List.{list_all, list_any};
-ghost use Rattle.outputs.specs.Taken.{Fails, Takes};
+ghost use Rattle.outputs.specs.Streams.{Fails, Takes};
 ghost use Rattle.source_runs.specs.simulation.threads_monitors.Threads.{end_of};
 ghost use Rattle.driver.specs.Outputs.{output_state, outputs_without_files};
 ghost use Rattle.driver.specs.Records.{texts_of};

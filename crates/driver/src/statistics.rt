@@ -2,7 +2,7 @@
 
 ghost use Rattle.std.specs.Prelude.{◌≡◌, ◌++◌, IfOk, IfSome, OnErr, OnOk};
 ghost use Rattle.std.specs.List.{zip};
-ghost use Rattle.outputs.specs.Taken.{Fails, Takes};
+ghost use Rattle.outputs.specs.Streams.{Fails, Takes};
 ghost use Rattle.source_runs.specs.shared_machine.Histories.{events_of, reports_of};
 ghost use Rattle.driver.specs.Outcomes.{status_after, stop_text};
 ghost use Rattle.driver.specs.Records.{is_short, status_with, too_long_text};

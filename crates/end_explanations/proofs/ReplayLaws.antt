@@ -9,16 +9,16 @@ use Rattle.event_trace.specs.interleaving_core.simulation.MachineStates.{Machine
 use Rattle.shared_machine.specs.Histories.{events_of, plain, reports_of}
 use Rattle.shared_machine.specs.declared.history.Entry.{Entry}
 use Rattle.shared_machine.specs.declared.history.Run.{Run}
-use Rattle.end_explanations.specs.Replays.{AreReplayed, IsReplayed, Known, pair_of}
+use Rattle.end_explanations.specs.Replays.{AreReplayed, IsReplayed, ReplayState, pair_of}
 
 -- one list of events after another
-pub replayed_both : (source : List ℕ) (c : MachineState) (k : Known) (es : List (Event × Report)) (d : MachineState) (l : Known) (fs : List (Event × Report)) (last : MachineState) (after : Known)
+pub replayed_both : (source : List ℕ) (c : MachineState) (k : ReplayState) (es : List (Event × Report)) (d : MachineState) (l : ReplayState) (fs : List (Event × Report)) (last : MachineState) (after : ReplayState)
     → AreReplayed source c k es d l → AreReplayed source d l fs last after → AreReplayed source c k (es ++ fs) last after
 replayed_both source c k [] d l fs last after (same, still) more = subst (λ x. AreReplayed source x k fs last after) same (subst (λ x. AreReplayed source d x fs last after) still more)
 replayed_both source c k (e ∷ es) d l fs last after (next, known, one, rest) more = (next, known, one, replayed_both source next known es d l fs last after rest more)
 
 -- the event of an entry once more
-pub replayed_again : (source : List ℕ) (n : ℕ) (e : Entry) (c : MachineState) (k : Known) (d : MachineState) (l : Known) (last : MachineState) (after : Known)
+pub replayed_again : (source : List ℕ) (n : ℕ) (e : Entry) (c : MachineState) (k : ReplayState) (d : MachineState) (l : ReplayState) (last : MachineState) (after : ReplayState)
     → AreReplayed source c k (map pair_of (replicate n e)) d l → IsReplayed source d l (pair_of e) last after → AreReplayed source c k (map pair_of (replicate (suc n) e)) last after
 replayed_again source zero e c k d l last after (same, still) one =
     (last, after, subst (λ x. IsReplayed source x k (pair_of e) last after) same (subst (λ x. IsReplayed source d x (pair_of e) last after) still one), (refl, refl))
@@ -35,7 +35,7 @@ plain_more runs i d below =
     ap plain (take_more runs i d below) ∙ plain-append (take i runs) (r ∷ []) ∙ ap (λ (l : List Entry). plain (take i runs) ++ l) (append-nil (replicate r.times r.entry))
 
 -- one run more
-pub replayed_run : (source : List ℕ) (runs : List Run) (i : ℕ) (x : Run) (c : MachineState) (k : Known) (d : MachineState) (l : Known) (last : MachineState) (after : Known) → i < length runs
+pub replayed_run : (source : List ℕ) (runs : List Run) (i : ℕ) (x : Run) (c : MachineState) (k : ReplayState) (d : MachineState) (l : ReplayState) (last : MachineState) (after : ReplayState) → i < length runs
     → AreReplayed source c k (map pair_of (plain (take i runs))) d l → AreReplayed source d l (map pair_of (replicate (get_or runs i x).times (get_or runs i x).entry)) last after
     → AreReplayed source c k (map pair_of (plain (take (i + 1) runs))) last after
 replayed_run source runs i x c k d l last after below before more =

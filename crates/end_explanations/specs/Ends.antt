@@ -15,7 +15,7 @@ use Rattle.event_trace.specs.interleaving_core.Waits.{wait_at}
 use Rattle.event_trace.specs.interleaving_core.declared.positions.Position.{Position}
 use Rattle.event_trace.specs.Columns.{found_at}
 use Rattle.event_trace.specs.Texts.{wait_text}
-use Rattle.end_explanations.specs.Located.{line_of, located_text}
+use Rattle.end_explanations.specs.Locations.{line_of, located_text}
 use Rattle.end_explanations.specs.declared.ends.Cause.{Cause}
 use Rattle.end_explanations.specs.declared.ends.Cause.TheVariants.{Budget as BudgetCause, Fault as FaultCause}
 use Rattle.end_explanations.specs.declared.ends.EarlyEnd.{EarlyEnd}

@@ -16,14 +16,14 @@ use Rattle.end_explanations.specs.Ends.{callers_text, early_end, end_text}
 use Rattle.end_explanations.specs.declared.ends.EarlyEnd.{EarlyEnd}
 
 -- what is known after some events: the callers of each thread, the deadlocked threads that were printed last, and the text
-pub record Known : Type 0 where
+pub record ReplayState : Type 0 where
   pub callers : List (List Position)
   pub printed : List Bool
   pub text : List ℕ
 
 -- before the first event
-abbrev pub beginning : Known
-beginning = record { callers = replicate MOST_THREADS []; printed = []; text = [] }
+abbrev pub initial_replay : ReplayState
+initial_replay = record { callers = replicate MOST_THREADS []; printed = []; text = [] }
 
 -- a thread is deadlocked, and was not printed as deadlocked
 abbrev pub is_new : List Bool → List Bool → ℕ → Bool
@@ -39,31 +39,31 @@ printed_after printed deadlocked t = if is_new printed deadlocked t then deadloc
 
 -- the text gets the lines on a thread that ends from a machine state, in a program with this source, and the line on the threads that are deadlocked
 -- then, where it is new that this thread is
-pub record IsEndExplained (source : List ℕ) (c : MachineState) (before : Known) (end : EarlyEnd) (after : Known) : Type 0 where
+pub record IsEndExplained (source : List ℕ) (c : MachineState) (before : ReplayState) (end : EarlyEnd) (after : ReplayState) : Type 0 where
   pub deadlocked : List Bool
   pub is_deadlock : IsDeadlockOf c deadlocked
   pub text : after.text ≡ before.text ++ end_text source c end ++ callers_text source c (callers_of before.callers end.thread) ++ new_deadlock c before.printed deadlocked end.thread
   pub printed : after.printed ≡ printed_after before.printed deadlocked end.thread
 
 -- only an event that ends a thread like that gets a text
-abbrev pub IsEventExplained : List ℕ → MachineState → Known → Option EarlyEnd → Known → Type 0
+abbrev pub IsEventExplained : List ℕ → MachineState → ReplayState → Option EarlyEnd → ReplayState → Type 0
 IsEventExplained source c before None after = (after.text ≡ before.text) × (after.printed ≡ before.printed)
 IsEventExplained source c before (Some end) after = IsEndExplained source c before end after
 
 -- an event with its report is performed, from one machine state and what is known to the next ones
-pub record IsReplayed (source : List ℕ) (c : MachineState) (before : Known) (e : Event × Report) (next : MachineState) (after : Known) : Type 0 where
+pub record IsReplayed (source : List ℕ) (c : MachineState) (before : ReplayState) (e : Event × Report) (next : MachineState) (after : ReplayState) : Type 0 where
   pub transition : IsTransition c e.0 (next, e.1)
   pub explained : IsEventExplained source c before (early_end c.limits.budget e.0 e.1) after
   pub callers : after.callers ≡ callers_with before.callers e.0 (position_for c e.0) (position_for next e.0)
 
 -- one event after another
-abbrev pub AreReplayed : List ℕ → MachineState → Known → List (Event × Report) → MachineState → Known → Type 0
+abbrev pub AreReplayed : List ℕ → MachineState → ReplayState → List (Event × Report) → MachineState → ReplayState → Type 0
 AreReplayed source c before [] last after = (last ≡ c) × (after ≡ before)
-AreReplayed source c before (e ∷ es) last after = (next : MachineState) × (known : Known) × IsReplayed source c before e next known × AreReplayed source next known es last after
+AreReplayed source c before (e ∷ es) last after = (next : MachineState) × (known : ReplayState) × IsReplayed source c before e next known × AreReplayed source next known es last after
 
 -- the text on the threads that end early in these events with their reports, from this machine state on, in a program with this source
 abbrev pub AreEndsExplained : List ℕ → MachineState → List (Event × Report) → List ℕ → Type 0
-AreEndsExplained source c events text = (last : MachineState) × (after : Known) × AreReplayed source c beginning events last after × (text ≡ after.text)
+AreEndsExplained source c events text = (last : MachineState) × (after : ReplayState) × AreReplayed source c initial_replay events last after × (text ≡ after.text)
 
 -- the event of an entry with its report
 abbrev pub pair_of : Entry → Event × Report

@@ -4,7 +4,7 @@ ghost use Rattle.std.specs.Prelude.{◌≡◌, IfOk, option_and_then, option_map
 ghost use Rattle.event_trace.specs.Columns.{found_at};
 ghost use Rattle.event_trace.specs.Lines.{method_and_pc};
 ghost use Rattle.event_trace.specs.MethodPositions.{ArePositionsOf};
-ghost use Rattle.end_explanations.specs.Located.{line_of};
+ghost use Rattle.end_explanations.specs.Locations.{line_of};
 
 use crate::names::Names;
 use cil_model::memory::NoMemory;
@@ -25,7 +25,7 @@ pub(crate) struct Located<'a> {
 impl<'a> fmt::Display for Located<'a> {
     ghost use Rattle.std.specs.Prelude.{Some, option_map};
     ghost use Rattle.event_trace.specs.Lines.{method_and_pc};
-    ghost use Rattle.end_explanations.specs.Located.{located_text};
+    ghost use Rattle.end_explanations.specs.Locations.{located_text};
 
     ghost output = { λ l. Some (located_text (option_map method_and_pc l.at) l.line) };
 
@@ -47,7 +47,7 @@ struct LineNote(Option<usize>);
 
 impl fmt::Display for LineNote {
     ghost use Rattle.std.specs.Prelude.{Some};
-    ghost use Rattle.end_explanations.specs.Located.{line_note};
+    ghost use Rattle.end_explanations.specs.Locations.{line_note};
 
     ghost output = { λ note. Some (line_note note.0) };
 

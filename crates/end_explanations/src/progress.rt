@@ -3,7 +3,7 @@
 ghost use Rattle.std.specs.Prelude.{◌≡◌, ◌++◌, IfOk, OnOk, string_bytes};
 ghost use Rattle.event_trace.specs.MethodPositions.{ArePositionsOf};
 ghost use Rattle.end_explanations.specs.Callers.{callers_with, callers_of};
-ghost use Rattle.end_explanations.specs.Replays.{IsEndExplained, beginning, is_new, new_deadlock, printed_after};
+ghost use Rattle.end_explanations.specs.Replays.{IsEndExplained, initial_replay, is_new, new_deadlock, printed_after};
 
 use crate::callers::{Callers, follow};
 use crate::ends::EarlyEnd;
@@ -29,9 +29,9 @@ pub(crate) struct Progress {
 
 impl Model for Progress {
     ghost use Rattle.std.specs.Prelude.{string_bytes};
-    ghost use Rattle.end_explanations.specs.Replays.{Known};
+    ghost use Rattle.end_explanations.specs.Replays.{ReplayState};
 
-    ghost Value = { Known };
+    ghost Value = { ReplayState };
 
     ghost view = { λ p. record { callers = p.callers.items; printed = p.printed.items; text = string_bytes p.text } };
 }
@@ -39,7 +39,7 @@ impl Model for Progress {
 impl Progress {
     /// Before the first event.
     pub(crate) fn new(alloc: Global) -> Result<Progress, AllocError>
-        ensures { IfOk result (λ progress. progress ≡ beginning) }
+        ensures { IfOk result (λ progress. progress ≡ initial_replay) }
     {
         Ok(Progress {
             callers: no_callers(alloc)?,
@@ -124,7 +124,7 @@ fn is_new(printed: &[bool], deadlocked: &[bool], thread: u8) -> bool
 
 /// No callers of any thread that a machine can have.
 fn no_callers(alloc: Global) -> Result<Vec<Callers>, AllocError>
-    ensures { IfOk result (λ callers. callers.items ≡ beginning.callers) }
+    ensures { IfOk result (λ callers. callers.items ≡ initial_replay.callers) }
 {
     let mut callers = Vec::new(alloc);
     for _thread in 0..MOST_THREADS {

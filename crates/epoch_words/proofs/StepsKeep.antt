@@ -6,7 +6,7 @@ use native.Mathlib.Decide.{ℕ_discrete}
 use lib.Seq.{set-get_or}
 use Rattle.atomic_table.specs.Table.{State, step, keeps, Allows, Splits}
 use Rattle.epoch_words.proofs.Views.{at_inside, changed, longer}
-use Rattle.epoch_words.specs.Rule.{IsPaced, IsSeatView, IsHeraldView, Knows, KeepsEpochs}
+use Rattle.epoch_words.specs.Rule.{AreWithinOneEpoch, IsSeatView, IsHeraldView, Knows, KeepsEpochs}
 use Rattle.epoch_words.specs.Steps.{Holder, dealing_herald, dealt_seat, LoadsPosted, StoresSeen, LoadsSeen, StoresPosted}
 use Rattle.epoch_words.specs.Tokens.{FoundAll, IsPostedOrOneLess}
 use Rattle.epoch_words.specs.declared.word_table.HeraldView.{HeraldView}
@@ -22,11 +22,11 @@ abbrev KeepsOthers : ℕ → ℕ → List ℕ → List ℕ → ℕ → Type 0
 KeepsOthers workers positions before after mover = (j : ℕ) (v : View) → j ≢ mover → Knows before workers positions j v → Knows after workers positions j v
 
 -- a step of the view at `mover`, which becomes w, while the words become `after`
-stepped_keeps : (workers : ℕ) (s : Table) → KeepsEpochs workers s → (after : List ℕ) (homes : List (Option (Unit {0}))) (mover : ℕ) (w : View) → length after ≡ length s.words → IsPaced workers after
+stepped_keeps : (workers : ℕ) (s : Table) → KeepsEpochs workers s → (after : List ℕ) (homes : List (Option (Unit {0}))) (mover : ℕ) (w : View) → length after ≡ length s.words → AreWithinOneEpoch workers after
     → Knows after workers (length s.views) mover w → KeepsOthers workers (length s.views) s.words after mover → KeepsEpochs workers record { words = after; homes = homes; views = set s.views mover w }
-stepped_keeps workers s rule after homes mover w same_length paced mine others = record {
+stepped_keeps workers s rule after homes mover w same_length within_one_epoch mine others = record {
   words_are = same_length ∙ rule.words_are;
-  paced = paced;
+  within_one_epoch = within_one_epoch;
   known = λ j v e. subst (λ k. Knows after workers k j v) (sym (length-set s.views mover w)) (changed (Knows after workers (length s.views)) s.views mover w mine (λ a b ne h. others a b ne (rule.known a b h)) j v e);
 }
 
@@ -34,10 +34,10 @@ stepped_keeps workers s rule after homes mover w same_length paced mine others =
 loaded_keeps : (workers : ℕ) (s : Table) → KeepsEpochs workers s → (i : ℕ) (homes : List (Option (Unit {0}))) (mover : ℕ) (w : View) → Knows s.words workers (length s.views) mover w
     → KeepsEpochs workers record { words = set s.words i (get_or s.words i 0); homes = homes; views = set s.views mover w }
 loaded_keeps workers s rule i homes mover w mine = subst (λ (ws : List ℕ). KeepsEpochs workers record { words = ws; homes = homes; views = set s.views mover w }) (sym (set-get_or s.words i 0))
-    (stepped_keeps workers s rule s.words homes mover w refl rule.paced mine (λ j v _ k. k))
+    (stepped_keeps workers s rule s.words homes mover w refl rule.within_one_epoch mine (λ j v _ k. k))
 
 loads_posted_at : (workers slots id : ℕ) (seat : SeatView) → Allows (KeepsEpochs workers) slots id (OfSeat seat, []) workers (λ n. n) (LoadsPosted (step slots workers 0 0 none) (OfSeat seat, []))
-loads_posted_at workers slots id seat s rule _ at _ = let k : IsSeatView s.words workers id seat = rule.known id (OfSeat seat) at in let n : ℕ = get_or s.words workers 0 in let near = rule.paced seat.index k.in_range in
+loads_posted_at workers slots id seat s rule _ at _ = let k : IsSeatView s.words workers id seat = rule.known id (OfSeat seat) at in let n : ℕ = get_or s.words workers 0 in let near = rule.within_one_epoch seat.index k.in_range in
     let after : View = OfSeat (record seat { polled = n; polls = seat.polls + 1 }) in (
       after,
       keeps,
@@ -68,10 +68,10 @@ module _ (workers : ℕ) (ws : List ℕ) (i x : ℕ) (in_range : i < workers) wh
   there : (j : ℕ) → j ≢ i → get_or (set ws i x) j 0 ≡ get_or ws j 0
   there j ne = get_or-set_other ws i j x 0 ne
 
-  seen_paced : length ws ≡ workers + 1 → IsPaced workers ws → IsPostedOrOneLess x (get_or ws workers 0) → IsPaced workers (set ws i x)
-  seen_paced words_are paced mine j l = subst (λ (n : ℕ). IsPostedOrOneLess (get_or (set ws i x) j 0) n) (sym posted_stays) (dite (ℕ_discrete j i)
+  seen_paced : length ws ≡ workers + 1 → AreWithinOneEpoch workers ws → IsPostedOrOneLess x (get_or ws workers 0) → AreWithinOneEpoch workers (set ws i x)
+  seen_paced words_are within_one_epoch mine j l = subst (λ (n : ℕ). IsPostedOrOneLess (get_or (set ws i x) j 0) n) (sym posted_stays) (dite (ℕ_discrete j i)
       (λ e. subst (λ (n : ℕ). IsPostedOrOneLess n (get_or ws workers 0)) (sym (ap (λ (k : ℕ). get_or (set ws i x) k 0) e ∙ here words_are)) mine)
-      (λ ne. subst (λ (n : ℕ). IsPostedOrOneLess n (get_or ws workers 0)) (sym (there j ne)) (paced j l)))
+      (λ ne. subst (λ (n : ℕ). IsPostedOrOneLess n (get_or ws workers 0)) (sym (there j ne)) (within_one_epoch j l)))
 
   seen_others : (positions : ℕ) → length ws ≡ workers + 1 → i + 1 < positions → get_or ws i 0 ≤ x → KeepsOthers workers positions ws (set ws i x) (i + 1)
   seen_others positions words_are last grows j (OfSeat seat) ne k = record {
@@ -95,13 +95,13 @@ module _ (workers : ℕ) (ws : List ℕ) (i x : ℕ) (in_range : i < workers) wh
 
 stores_seen_at : (workers slots id : ℕ) (seat : SeatView)
     → Allows (KeepsEpochs workers) slots id (OfSeat seat, []) seat.index (λ _. seat.polled) (λ _. StoresSeen (step slots seat.index seat.polled 0 none) (OfSeat seat, []) seat.polled)
-stores_seen_at workers slots id seat s rule _ at _ = let k : IsSeatView s.words workers id seat = rule.known id (OfSeat seat) at in let near = rule.paced seat.index k.in_range in let last = at_inside s.views id (OfSeat seat) at in
+stores_seen_at workers slots id seat s rule _ at _ = let k : IsSeatView s.words workers id seat = rule.known id (OfSeat seat) at in let near = rule.within_one_epoch seat.index k.in_range in let last = at_inside s.views id (OfSeat seat) at in
     let after : List ℕ = set s.words seat.index seat.polled in let posted_same = posted_stays workers s.words seat.index seat.polled k.in_range in let acked : View = OfSeat (record seat { seen = seat.polled }) in (
       acked,
       keeps,
       tt,
       stepped_keeps workers s rule after s.homes id acked (length-set s.words seat.index seat.polled)
-          (seen_paced workers s.words seat.index seat.polled k.in_range rule.words_are rule.paced (k.polled_posted, omega (arith, near.1, k.seen_is, k.seen_polled)))
+          (seen_paced workers s.words seat.index seat.polled k.in_range rule.words_are rule.within_one_epoch (k.polled_posted, omega (arith, near.1, k.seen_is, k.seen_polled)))
           record {
             position_is = k.position_is;
             in_range = k.in_range;
@@ -122,7 +122,7 @@ stores_seen key slots id index polled me seat index_is polled_is me_is =
 loads_seen_at : (workers slots id i : ℕ) (herald : HeraldView) → i < length herald.found
     → Allows (KeepsEpochs workers) slots id (OfHerald herald, []) i (λ n. n) (LoadsSeen (step slots i 0 0 none) (OfHerald herald, []))
 loads_seen_at workers slots id i herald l s rule _ at _ = let k : IsHeraldView s.words workers (length s.views) id herald = rule.known id (OfHerald herald) at in let n : ℕ = get_or s.words i 0 in
-    let near : IsPostedOrOneLess n (get_or s.words workers 0) = rule.paced i (omega (arith, k.found_each)) in let after : HeraldView = record herald { found = set herald.found i n; looks = herald.looks + 1; looked_at = i } in (
+    let near : IsPostedOrOneLess n (get_or s.words workers 0) = rule.within_one_epoch i (omega (arith, k.found_each)) in let after : HeraldView = record herald { found = set herald.found i n; looks = herald.looks + 1; looked_at = i } in (
       OfHerald after,
       keeps,
       tt,
@@ -166,7 +166,7 @@ stores_posted_at workers slots id herald all s rule _ at _ = let k : IsHeraldVie
       keeps,
       tt,
       stepped_keeps workers s rule after s.homes id next (length-set s.words workers n)
-          (λ j l. let old : IsPostedOrOneLess (get_or s.words j 0) (get_or s.words workers 0) = rule.paced j l in let since = k.found_since j l in
+          (λ j l. let old : IsPostedOrOneLess (get_or s.words j 0) (get_or s.words workers 0) = rule.within_one_epoch j l in let since = k.found_since j l in
           let now : get_or herald.found j 0 ≡ herald.posted = all j l in (omega (arith, there j l, raised, old.0, k.posted_is), omega (arith, there j l, raised, since, now)))
           record {
             position_is = k.position_is;
@@ -196,7 +196,7 @@ deals_at workers id herald room s rule at = let k : IsHeraldView s.words workers
     let right : View = dealt_seat (OfHerald herald) in let positions : ℕ = length s.views + 1 in let len : length (set s.views id left) ≡ length s.views = length-set s.views id left in
     let more : length (set s.views id left ++ right ∷ []) ≡ positions = length-append (set s.views id left) (right ∷ []) ∙ ap (λ (x : ℕ). x + 1) len in record {
       words_are = rule.words_are;
-      paced = rule.paced;
+      within_one_epoch = rule.within_one_epoch;
       known = λ j v e. subst (λ (x : ℕ). Knows s.words workers x j v) (sym more) (longer (Knows s.words workers positions) (set s.views id left) right
           record {
             position_is = len ∙ k.positions_are;

@@ -18,8 +18,8 @@ abbrev pub initial_view : ℕ → View
 initial_view workers = OfHerald (dealt_herald workers 0)
 
 -- Each seat's number keeps to the posted one.
-abbrev pub IsPaced : ℕ → List ℕ → Type 0
-IsPaced workers words = (j : ℕ) → j < workers → IsPostedOrOneLess (slice_index words j) (slice_index words workers)
+abbrev pub AreWithinOneEpoch : ℕ → List ℕ → Type 0
+AreWithinOneEpoch workers words = (j : ℕ) → j < workers → IsPostedOrOneLess (slice_index words j) (slice_index words workers)
 
 -- What seat j knows, whose view has the position j + 1: its own number, and that the posted one has not fallen below what it polled.
 pub record IsSeatView (words : List ℕ) (workers position : ℕ) (seat : SeatView) : Type 0 where
@@ -45,5 +45,5 @@ Knows words workers positions position (OfHerald herald) = IsHeraldView words wo
 -- Every step keeps this: the words are paced, and what each holder of a token knows is true.
 pub record KeepsEpochs (workers : ℕ) (table : State (Unit {0}) View) : Type 0 where
   pub words_are : length table.words ≡ workers + 1
-  pub paced : IsPaced workers table.words
+  pub within_one_epoch : AreWithinOneEpoch workers table.words
   pub known : (position : ℕ) (view : View) → get_elem? table.views position ≡ some view → Knows table.words workers (length table.views) position view

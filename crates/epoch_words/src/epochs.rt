@@ -157,7 +157,7 @@ impl Epochs {
     pub fn poll(&self, mut seat: Seat) -> (u64, Seat)
         requires { seat.table ≡ self.now.table }
         ensures seat { result.1 ≡ record seat { polled = result.0; polls = seat.polls + 1 } }
-        ensures paced { IsPostedOrOneLess seat.seen result.0 }
+        ensures within_one_epoch { IsPostedOrOneLess seat.seen result.0 }
         ensures rises { seat.polled ≤ result.0 }
     {
         seat.polled = self
@@ -188,7 +188,7 @@ impl Epochs {
     pub fn seen_by(&self, mut herald: Herald, index: usize) -> (u64, Herald)
         requires { (herald.table ≡ self.now.table) × (index < self.now.workers) }
         ensures herald { result.1 ≡ record herald { found = slice_set herald.found index result.0; looks = herald.looks + 1; looked_at = index } }
-        ensures paced { IsPostedOrOneLess result.0 herald.posted }
+        ensures within_one_epoch { IsPostedOrOneLess result.0 herald.posted }
         ensures rises { slice_index herald.found index ≤ result.0 }
     {
         let seen = self.words.shared.load::<LoadSeen>(&mut herald.token, index);

@@ -8,7 +8,7 @@ use Rattle.interleaving_core.specs.simulation.Counts.{IsCountedMonitor}
 use Rattle.event_trace.proofs.Names.{length-replicate, same_Some, slice_get_within, not_both, Held, HeapObject, StateThread, State, is_live_thread, Born, Literal, StateWait, ForMonitor, ForEnd, wait_of, IsTrueWait, waits_truly, waiting_lives, is_live_at, MachineState, IsThread, Represents, wait_at, Wait, Monitor, Join, agree_length, lives_alike, after_round, is_held_up, is_in, stays}
 use Rattle.event_trace.specs.Deadlocks.{IsDeadlockOf}
 use Rattle.event_trace.proofs.WaitsAlike.{AreWaitsAlike, IsWaitAlike, waits_alike}
-use Rattle.event_trace.proofs.RoundLaws.{count, count_within, in_is, is_in_truly, passing_at, passing_length, same_or_less}
+use Rattle.event_trace.proofs.RoundLaws.{count, count_within, in_is, is_in_truly, restrict_at, restrict_length, same_or_less}
 
 no_start : (t : ℕ) → 0 + t ≡ t
 no_start t = omega arith
@@ -61,7 +61,7 @@ module _ (c : MachineState) (s : State) (r : Represents c s) where
         kept : stays c set (0 + t) ≡ true
         kept =
             same_Some (stays c set (0 + t)) true
-            (sym (passing_at (stays c set) 0 t set ∙ ap (option_map (λ x. x && stays c set (0 + t))) inside) ∙ (ap (λ l. slice_get l t) same ∙ inside))
+            (sym (restrict_at (stays c set) 0 t set ∙ ap (option_map (λ x. x && stays c set (0 + t))) inside) ∙ (ap (λ l. slice_get l t) same ∙ inside))
 
         by_waits : (w : Option Wait) (v : Option StateWait) → wait_at c t ≡ w → wait_of c.tree s t ≡ v → AreWaitsAlike (wait_at c t) (wait_of c.tree s t) → stays c set t ≡ true → (x : StateWait) × (wait_of c.tree s t ≡ Some x) × IsHeldUp s set x
         by_waits None v is are alike h = not_both false refl (sym (ap (λ o. option_map_or (is_held_up c set) o false) is) ∙ h)
@@ -88,7 +88,7 @@ module _ (c : MachineState) (s : State) (r : Represents c s) where
   pub round_is_above : (set : List Bool) → IsAbove set → IsAbove (after_round c set)
   round_is_above set above other blocked t inside =
       let waits = blocked t inside in
-      passing_at (stays c set) 0 t set ∙ (ap (option_map (λ x. x && stays c set (0 + t))) (above other blocked t inside) ∙ ap Some (ap (stays c set) (no_start t) ∙ by_waits (wait_at c t) refl waits.0 waits.1 waits.2 (waits_alike c s r t)))
+      restrict_at (stays c set) 0 t set ∙ (ap (option_map (λ x. x && stays c set (0 + t))) (above other blocked t inside) ∙ ap Some (ap (stays c set) (no_start t) ∙ by_waits (wait_at c t) refl waits.0 waits.1 waits.2 (waits_alike c s r t)))
     where
       or_true : (b : Bool) → (b || true) ≡ true
       or_true true = refl
@@ -123,7 +123,7 @@ rounds_begun c set is = record {
 
 pub one_round_more : (c : MachineState) (rounds : ℕ) (set : List Bool) → RoundsSoFar c rounds set → RoundsSoFar c (rounds + 1) (after_round c set)
 one_round_more c rounds set h = record {
-  each = passing_length (stays c set) 0 set ∙ h.each;
+  each = restrict_length (stays c set) 0 set ∙ h.each;
   above = λ s r. round_is_above c s r set (h.above s r);
   less = by_less h.less (same_or_less (stays c set) 0 set);
 }

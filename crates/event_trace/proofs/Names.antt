@@ -1,4 +1,4 @@
--- The names that the proofs of this crate cite, passed on from one place. Declares nothing.
+-- The names that the proofs of this crate cite, re-exported by one module. Declares nothing.
 pub use Rattle.cil_model.proofs.SameLaws.{not_both}
 pub use Rattle.cil_model.specs.Declarations.{Declaration, built_ins, source_name, as_method}
 pub use Rattle.cil_model.specs.declared.events.Event.{Event}
@@ -12,7 +12,7 @@ pub use Rattle.cil_model.specs.declared.types.ClassName.{ClassName}
 pub use Rattle.event_trace.specs.Columns.{found_at, heap_columns, heap_for, instruction_column, line_text, own_column, phase_text, position_for, report_text, size_columns, line_of}
 pub use Rattle.event_trace.specs.Laws.{LinesHaveColumns, IsLineOf, LinesComeBefore, before_empty_line}
 pub use Rattle.event_trace.specs.MethodPositions.{built_in_method, method_indices, source_method, ArePositionsOf}
-pub use Rattle.event_trace.specs.Rounds.{is_in, after_round, is_held_up, stays, passing}
+pub use Rattle.event_trace.specs.Rounds.{is_in, after_round, is_held_up, stays, restrict}
 pub use Rattle.event_trace.specs.Texts.{count_below, deadlock_line, deadlock_word, numbers_below, separator, lines_below}
 pub use Rattle.event_trace.specs.declared.method_positions.MethodPositions.{MethodPositions}
 pub use Rattle.instruction_text.specs.Characters.{IsPrintable, is_printable}

@@ -1,6 +1,6 @@
 -- What a round leaves of a set.
 use Rattle.std.proofs.Common.{◌≡◌, ◌≤◌, ◌<◌, ◌+◌, ◌⊎◌, ◌&&◌, ℕ, zero, suc, Bool, true, false, List, [], ◌∷◌, ◌++◌, length, take, Option, Some, None, option_map, slice_get, unwrap_or, refl, inl, inr, sym, ap, ◌∙◌, arith}
-use Rattle.event_trace.proofs.Names.{not_both, is_in, passing}
+use Rattle.event_trace.proofs.Names.{not_both, is_in, restrict}
 
 -- how many truths there are
 abbrev pub count : List Bool → ℕ
@@ -10,9 +10,9 @@ count (false ∷ xs) = count xs
 
 module _ (test : ℕ → Bool) where
   -- the same number of entries
-  pub passing_length : (n : ℕ) (xs : List Bool) → length (passing test n xs) ≡ length xs
-  passing_length n [] = refl
-  passing_length n (x ∷ xs) = ap suc (passing_length (n + 1) xs)
+  pub restrict_length : (n : ℕ) (xs : List Bool) → length (restrict test n xs) ≡ length xs
+  restrict_length n [] = refl
+  restrict_length n (x ∷ xs) = ap suc (restrict_length (n + 1) xs)
 
   next_number : (n k : ℕ) → n + 1 + k ≡ n + suc k
   next_number n k = omega arith
@@ -21,41 +21,41 @@ module _ (test : ℕ → Bool) where
   no_more n = omega arith
 
   -- the item at an index
-  pub passing_at : (n t : ℕ) (xs : List Bool) → slice_get (passing test n xs) t ≡ option_map (λ x. x && test (n + t)) (slice_get xs t)
-  passing_at n t [] = refl
-  passing_at n zero (x ∷ xs) = ap (λ k. Some (x && test k)) (sym (no_more n))
-  passing_at n (suc t) (x ∷ xs) = passing_at (n + 1) t xs ∙ ap (λ k. option_map (λ y. y && test k) (slice_get xs t)) (next_number n t)
+  pub restrict_at : (n t : ℕ) (xs : List Bool) → slice_get (restrict test n xs) t ≡ option_map (λ x. x && test (n + t)) (slice_get xs t)
+  restrict_at n t [] = refl
+  restrict_at n zero (x ∷ xs) = ap (λ k. Some (x && test k)) (sym (no_more n))
+  restrict_at n (suc t) (x ∷ xs) = restrict_at (n + 1) t xs ∙ ap (λ k. option_map (λ y. y && test k) (slice_get xs t)) (next_number n t)
 
   -- one entry more
-  pub passing_more : (n t : ℕ) (xs : List Bool) → t < length xs → passing test n (take t xs) ++ (is_in xs t && test (n + t)) ∷ [] ≡ passing test n (take (suc t) xs)
-  passing_more n t [] below = absurd (omega (arith, below))
-  passing_more n zero (x ∷ xs) below = ap (λ k. (x && test k) ∷ []) (no_more n)
-  passing_more n (suc t) (x ∷ xs) below =
+  pub restrict_more : (n t : ℕ) (xs : List Bool) → t < length xs → restrict test n (take t xs) ++ (is_in xs t && test (n + t)) ∷ [] ≡ restrict test n (take (suc t) xs)
+  restrict_more n t [] below = absurd (omega (arith, below))
+  restrict_more n zero (x ∷ xs) below = ap (λ k. (x && test k) ∷ []) (no_more n)
+  restrict_more n (suc t) (x ∷ xs) below =
       ap (λ l. (x && test n) ∷ l)
-      (ap (λ k. passing test (n + 1) (take t xs) ++ (is_in xs t && test k) ∷ []) (sym (next_number n t)) ∙ passing_more (n + 1) t xs (omega (arith, below)))
+      (ap (λ k. restrict test (n + 1) (take t xs) ++ (is_in xs t && test k) ∷ []) (sym (next_number n t)) ∙ restrict_more (n + 1) t xs (omega (arith, below)))
 
   -- nothing is taken out, or there is one less
-  pub same_or_less : (n : ℕ) (xs : List Bool) → (passing test n xs ≡ xs) ⊎ (count (passing test n xs) + 1 ≤ count xs)
+  pub same_or_less : (n : ℕ) (xs : List Bool) → (restrict test n xs ≡ xs) ⊎ (count (restrict test n xs) + 1 ≤ count xs)
   same_or_less n [] = inl refl
   same_or_less n (false ∷ xs) = by_rest (same_or_less (n + 1) xs)
     where
-      by_rest : (passing test (n + 1) xs ≡ xs) ⊎ (count (passing test (n + 1) xs) + 1 ≤ count xs) → ((false ∷ passing test (n + 1) xs) ≡ false ∷ xs) ⊎ (count (passing test (n + 1) xs) + 1 ≤ count xs)
+      by_rest : (restrict test (n + 1) xs ≡ xs) ⊎ (count (restrict test (n + 1) xs) + 1 ≤ count xs) → ((false ∷ restrict test (n + 1) xs) ≡ false ∷ xs) ⊎ (count (restrict test (n + 1) xs) + 1 ≤ count xs)
       by_rest (inl same) = inl (ap (λ l. false ∷ l) same)
       by_rest (inr less) = inr less
   same_or_less n (true ∷ xs) = by_test (test n) (same_or_less (n + 1) xs)
     where
-      by_test : (b : Bool) → (passing test (n + 1) xs ≡ xs) ⊎ (count (passing test (n + 1) xs) + 1 ≤ count xs) → ((b ∷ passing test (n + 1) xs) ≡ true ∷ xs) ⊎ (count (b ∷ passing test (n + 1) xs) + 1 ≤ count (true ∷ xs))
+      by_test : (b : Bool) → (restrict test (n + 1) xs ≡ xs) ⊎ (count (restrict test (n + 1) xs) + 1 ≤ count xs) → ((b ∷ restrict test (n + 1) xs) ≡ true ∷ xs) ⊎ (count (b ∷ restrict test (n + 1) xs) + 1 ≤ count (true ∷ xs))
       by_test true (inl same) = inl (ap (λ l. true ∷ l) same)
       by_test true (inr less) =
-          let more : count (true ∷ passing test (n + 1) xs) ≡ suc (count (passing test (n + 1) xs)) = refl in
+          let more : count (true ∷ restrict test (n + 1) xs) ≡ suc (count (restrict test (n + 1) xs)) = refl in
           let all : count (true ∷ xs) ≡ suc (count xs) = refl in
           inr (omega (arith, less, more, all))
       by_test false (inl same) =
-          let none : count (false ∷ passing test (n + 1) xs) ≡ count xs = ap count same in
+          let none : count (false ∷ restrict test (n + 1) xs) ≡ count xs = ap count same in
           let all : count (true ∷ xs) ≡ suc (count xs) = refl in
           inr (omega (arith, none, all))
       by_test false (inr less) =
-          let none : count (false ∷ passing test (n + 1) xs) ≡ count (passing test (n + 1) xs) = refl in
+          let none : count (false ∷ restrict test (n + 1) xs) ≡ count (restrict test (n + 1) xs) = refl in
           let all : count (true ∷ xs) ≡ suc (count xs) = refl in
           inr (omega (arith, less, none, all))
 

@@ -4,7 +4,7 @@ use Rattle.cil_model.specs.declared.instructions.Instruction.{Instruction}
 use Rattle.cil_model.specs.declared.reports.End.{End}
 use Rattle.cil_model.specs.Bodies.{lines_of}
 use Rattle.interleaving_core.specs.simulation.reference_machine.BuiltIn.{Action, Enter, Join as JoinAction, act, join}
-use Rattle.interleaving_core.specs.simulation.reference_machine.Effects.{Setting}
+use Rattle.interleaving_core.specs.simulation.reference_machine.Effects.{StepContext}
 use Rattle.interleaving_core.specs.simulation.reference_machine.Steps.{instruction_at}
 use Rattle.interleaving_core.specs.simulation.reference_machine.TypedStates.{AreTypedFrames}
 use Rattle.interleaving_core.proofs.simulation.reference_machine.TypedStates.RunningFrames.{IsTypedEffect}
@@ -47,7 +47,7 @@ module _ (c : MachineState) (s : State) (r : Represents c s) (t : ℕ) where
   abbrev name : Names
   name = r.refines.name
 
-  abbrev here : Setting
+  abbrev here : StepContext
   here = record { tree = c.tree; limits = c.limits; thread = t; is_refused = false }
 
   -- what loads find

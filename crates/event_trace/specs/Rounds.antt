@@ -21,10 +21,10 @@ abbrev pub stays : MachineState → List Bool → ℕ → Bool
 stays c set t = option_map_or (is_held_up c set) (wait_at c t) false
 
 -- the truths of a list that pass, the first by this number
-abbrev pub passing : (ℕ → Bool) → ℕ → List Bool → List Bool
-passing test n [] = []
-passing test n (x ∷ xs) = (x && test n) ∷ passing test (n + 1) xs
+abbrev pub restrict : (ℕ → Bool) → ℕ → List Bool → List Bool
+restrict test n [] = []
+restrict test n (x ∷ xs) = (x && test n) ∷ restrict test (n + 1) xs
 
 -- the set after a round
 abbrev pub after_round : MachineState → List Bool → List Bool
-after_round c set = passing (stays c set) 0 set
+after_round c set = restrict (stays c set) 0 set

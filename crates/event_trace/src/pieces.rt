@@ -1,7 +1,7 @@
 //! Bytes that are put together, and written in pieces.
 
 ghost use Rattle.std.specs.Prelude.{◌≡◌, ◌<◌, ◌++◌, ◌∷◌, [], length, OnErr, OnOk};
-ghost use Rattle.outputs.specs.Taken.{Fails, Takes};
+ghost use Rattle.outputs.specs.Streams.{Fails, Takes};
 ghost use Rattle.event_trace.specs.Pieces.{TakesAllBut};
 ghost use Rattle.event_trace.specs.declared.pieces.TheConstants.{PIECE};
 

@@ -4,7 +4,7 @@ ghost use Rattle.std.specs.Prelude.{◌≡◌, ◌⊎◌, ◌+◌, ◌++◌, IfE
 ghost use Rattle.cil_model.specs.declared.reports.Report.{Report as AnyReport};
 ghost use Rattle.interleaving_core.specs.Views.{phase_at};
 ghost use Rattle.interleaving_core.specs.simulation.Transitions.{IsTransition};
-ghost use Rattle.outputs.specs.Taken.{HasGrown};
+ghost use Rattle.outputs.specs.Streams.{HasGrown};
 ghost use Rattle.schedule_text.specs.Items.{events_of};
 ghost use Rattle.event_trace.specs.Columns.{found_at, heap_for, line_of, position_for, thread_of};
 ghost use Rattle.event_trace.specs.Lines.{method_and_pc};

@@ -1,6 +1,6 @@
 -- A machine whose thread did local instructions on a lent frame is further.
 use Rattle.std.proofs.Common.{◌≡◌, ◌<◌, ◌+◌, ◌-◌, ℕ, zero, suc, List, [], ◌∷◌, Some, slice_get, slice_set, replicate, refl, sym, ap, ◌∙◌, subst}
-use Rattle.interleaving_core.specs.simulation.Lending.{RunsFrame, with_live}
+use Rattle.interleaving_core.specs.simulation.LentFrames.{RunsFrame, with_live}
 use Rattle.interleaving_core.proofs.simulation.Threads.LocalInstructions.{local_transitions}
 use Rattle.interleaving_core.specs.Loans.{Begins, IsAtOrigin, IsLent, Lent, RanLocally}
 use Rattle.exploration.proofs.Names.{same_Some, Step, Ran, Tree, AreLocalSteps, frames_over, Frame, Thread, Agree, MachineState, frame_room, AreTransitions, live_thread, IsLagging, IsThreadLagging}

@@ -3,7 +3,7 @@ use Rattle.std.proofs.Common.{Contains, ◌≡◌, ◌≢◌, ◌⊎◌, ◌<◌
 use Rattle.std.specs.Prelude.{IfOk}
 use Rattle.interleaving_core.specs.simulation.cil_model.declared.instructions.Instruction.{Instruction}
 use Rattle.interleaving_core.specs.simulation.cil_model.declared.trees.Line.{Line}
-use Rattle.interleaving_core.specs.simulation.resolved_code.Resolved.{IsOperation}
+use Rattle.interleaving_core.specs.simulation.resolved_code.ResolvedPrograms.{IsOperation}
 use Rattle.interleaving_core.specs.simulation.resolved_code.declared.operations.Operation.{Operation}
 use Rattle.exploration.proofs.Names.{get_or_from_slice_get, slice_get-map, slice_get_within, Event, Step, Report, Blocked, Tree, MachineState, AreTransitions, IsTransition, Thread, one_transition, same_program, is_live_at, IsNotTerminalAt, IsReal, IsTerminalAt, CanStepAt, CannotStepAt, AreStepsChecked, LeadsTo, ShowsOneOf, events_of, outcome_found, FoundOutcome, IsClosed, IsLedTo, LeadsInto, CannotStep, IsTerminal, ShownOutcome, ShowOnly, outcome_shown, Path}
 

@@ -33,7 +33,7 @@ pub trait First {
 }
 
 impl First for Brand {
-    ghost use Rattle.interleaving_core.specs.Beginnings.{no_machine_state};
+    ghost use Rattle.interleaving_core.specs.InitialStates.{no_machine_state};
 
     ghost first = { no_machine_state };
 }

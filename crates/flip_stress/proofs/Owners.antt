@@ -9,7 +9,7 @@ use native.Mathlib.Decide.{ℕ_discrete}
 use Rattle.std.specs.List.{range_with_len}
 use Rattle.std.specs.declared.thread.PromisedHandle.{PromisedHandle}
 use Rattle.word_flip.specs.Tokens.{FlipValue, WriterValue, initial_writer, initial_writers, IsWriterOf}
-use Rattle.flip_stress.specs.Promised.{promised_by}
+use Rattle.flip_stress.specs.Promises.{promised_by}
 use Rattle.flip_stress.specs.Stress.{own_count, slot_count, IsFlipOf}
 use Rattle.flip_stress.specs.declared.seat.SeatReport.{SeatReport}
 use Rattle.flip_stress.specs.declared.sizes.Sizes.{Sizes}

@@ -3,7 +3,7 @@
 ghost use Rattle.std.specs.Prelude.{◌≡◌, ◌+◌, ◌*◌, ◌%◌, ◌<◌, ◌≤◌, ◌^◌, ℕ, All, IfOk, true, sum_by, vec_len, slice_index};
 ghost use Rattle.std.specs.Arc.{arc_value};
 ghost use Rattle.word_flip.specs.Tokens.{initial_writers, IsCopierOf, IsWriterOf};
-ghost use Rattle.flip_stress.specs.Promised.{promised_count, promised_by};
+ghost use Rattle.flip_stress.specs.Promises.{promised_count, promised_by};
 ghost use Rattle.flip_stress.specs.Stress.{own_count, slot_count, IsFlipOf};
 
 use crate::collector::{CopierReport, run_copier};
@@ -36,7 +36,7 @@ struct KeepsAll {
 
 impl Promise<SeatReport> for KeepsAll {
     ghost use Rattle.std.specs.Prelude.{◌≡◌};
-    ghost use Rattle.flip_stress.specs.Promised.{promised_count};
+    ghost use Rattle.flip_stress.specs.Promises.{promised_count};
 
     ghost kept_by = { λ promise report. report.kept ≡ promised_count promise };
 }

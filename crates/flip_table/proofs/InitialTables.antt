@@ -38,7 +38,7 @@ deals_at plan id p of room s r at = let k : IsCopierView s.words plan (length s.
     let more : length (set s.views id left ++ right ∷ []) ≡ positions = length-append (set s.views id left) (right ∷ []) ∙ ap (λ (x : ℕ). x + 1) len in record {
       words_are = r.words_are;
       owned = r.owned;
-      paced = r.paced;
+      within_one_stage = r.within_one_stage;
       known = λ j v e. subst (λ (x : ℕ). Knows s.words plan x j v) (sym more) (longer (Knows s.words plan positions) (set s.views id left) right
           record {
             plan_is = of;
@@ -100,7 +100,7 @@ opens plan words count is count_is owned room = let null : (i : ℕ) → get_or 
     let no_retired : (k : ℕ) → get_or (replicate (length plan.owners) false) k false ≡ true → ⊥ = λ k h. let unset : get_or (replicate (length plan.owners) false) k false ≡ false = blank (length plan.owners) k false in cc in record {
       words_are = ap length is ∙ (length-replicate {A = ℕ} count 0 ∙ count_is);
       owned = owned;
-      paced = λ j _. let a = null (length plan.owners + length plan.owners + j) in let b = null (length plan.owners + length plan.owners + plan.seats) in (omega arith, omega arith);
+      within_one_stage = λ j _. let a = null (length plan.owners + length plan.owners + j) in let b = null (length plan.owners + length plan.owners + plan.seats) in (omega arith, omega arith);
       known = λ j v e. let t = only_one (initial_view plan) v j e in subst (λ (z : ℕ × View). Knows words plan 1 z.0 z.1) (λ i. (sym t.0 i, t.1 i)) record {
         plan_is = refl;
         position_is = refl;

@@ -59,22 +59,22 @@ module _ (plan : PlanView) where
   abbrev pub Slot : List ℕ → ℕ → CopierView → Type 0
   Slot ws k p = IsSlot plan.limit (first ws k) (second ws k) k (owner k) p
 
-  abbrev Paced : List ℕ → Type 0
-  Paced ws = (j : ℕ) → j < n → IsPostedOrOneLess (taken ws j) (stage ws)
+  abbrev WithinOneStage : List ℕ → Type 0
+  WithinOneStage ws = (j : ℕ) → j < n → IsPostedOrOneLess (taken ws j) (stage ws)
 
   -- what every other view knows continues to hold
   abbrev KeepsOthers : ℕ → List ℕ → List ℕ → ℕ → Type 0
   KeepsOthers positions before after mover = (j : ℕ) (v : View) → j ≢ mover → Knows before plan positions j v → Knows after plan positions j v
 
-  writer_steps : (s : Table) (r : KeepsFlip plan s) (ws : List ℕ) (hs : Homes) (me : ℕ) (q q' : WriterView) → get_elem? s.views me ≡ some (OfWriter q) → length ws ≡ length s.words → Paced ws → IsWriterView ws plan me q'
+  writer_steps : (s : Table) (r : KeepsFlip plan s) (ws : List ℕ) (hs : Homes) (me : ℕ) (q q' : WriterView) → get_elem? s.views me ≡ some (OfWriter q) → length ws ≡ length s.words → WithinOneStage ws → IsWriterView ws plan me q'
       → KeepsOthers (length s.views) s.words ws me → ((k : ℕ) → k < m → Slot s.words k r.copier → Slot ws k r.copier)
       → ((k : ℕ) → k < m → owner k ≡ q.index → Twin s.words k q r.copier → Twin ws k q' r.copier) → ((k : ℕ) (o : WriterView) → k < m → owner k ≢ q.index → Twin s.words k o r.copier → Twin ws k o r.copier)
       → KeepsFlip plan record { words = ws; homes = hs; views = set s.views me (OfWriter q') }
-  writer_steps s r ws hs me q q' at same_length paced placed others slots mine other = let position : me ≡ q.index + 1 = (r.known me (OfWriter q) at).position_is in record {
+  writer_steps s r ws hs me q q' at same_length within_one_stage own_view others slots mine other = let position : me ≡ q.index + 1 = (r.known me (OfWriter q) at).position_is in record {
     words_are = same_length ∙ r.words_are;
     owned = r.owned;
-    paced = paced;
-    known = λ j v e. subst (λ (positions : ℕ). Knows ws plan positions j v) (sym (length-set s.views me (OfWriter q'))) (changed (Knows ws plan (length s.views)) s.views me (OfWriter q') placed (λ a b ne h. others a b ne (r.known a b h)) j v e);
+    within_one_stage = within_one_stage;
+    known = λ j v e. subst (λ (positions : ℕ). Knows ws plan positions j v) (sym (length-set s.views me (OfWriter q'))) (changed (Knows ws plan (length s.views)) s.views me (OfWriter q') own_view (λ a b ne h. others a b ne (r.known a b h)) j v e);
     copier = r.copier;
     copier_is = set_else s.views me 0 (OfWriter q') (λ e. omega (arith, e)) ∙ r.copier_is;
     slots = λ k l. slots k l (r.slots k l);
@@ -88,14 +88,14 @@ module _ (plan : PlanView) where
   pub copier_of : (s : Table) (r : KeepsFlip plan s) (me : ℕ) (p : CopierView) → get_elem? s.views me ≡ some (OfCopier p) → r.copier ≡ p
   copier_of s r me p at = ap copier_part (some-injective (OfCopier r.copier) (OfCopier p) (sym r.copier_is ∙ (ap (λ (x : ℕ). get_elem? s.views x) (sym (r.known me (OfCopier p) at).position_is) ∙ at)))
 
-  copier_steps : (s : Table) (r : KeepsFlip plan s) (ws : List ℕ) (hs : Homes) (me : ℕ) (p p' : CopierView) → get_elem? s.views me ≡ some (OfCopier p) → length ws ≡ length s.words → Paced ws
+  copier_steps : (s : Table) (r : KeepsFlip plan s) (ws : List ℕ) (hs : Homes) (me : ℕ) (p p' : CopierView) → get_elem? s.views me ≡ some (OfCopier p) → length ws ≡ length s.words → WithinOneStage ws
       → IsCopierView ws plan (length s.views) me p' → KeepsOthers (length s.views) s.words ws me → ((k : ℕ) → k < m → Slot s.words k p → Slot ws k p')
       → ((k : ℕ) (q : WriterView) → k < m → IsWriterView s.words plan (owner k + 1) q → Twin s.words k q p → Twin ws k q p') → KeepsFlip plan record { words = ws; homes = hs; views = set s.views me (OfCopier p') }
-  copier_steps s r ws hs me p p' at same_length paced placed others slots step_of = let position : me ≡ 0 = (r.known me (OfCopier p) at).position_is in let is = copier_of s r me p at in record {
+  copier_steps s r ws hs me p p' at same_length within_one_stage own_view others slots step_of = let position : me ≡ 0 = (r.known me (OfCopier p) at).position_is in let is = copier_of s r me p at in record {
     words_are = same_length ∙ r.words_are;
     owned = r.owned;
-    paced = paced;
-    known = λ j v e. subst (λ (positions : ℕ). Knows ws plan positions j v) (sym (length-set s.views me (OfCopier p'))) (changed (Knows ws plan (length s.views)) s.views me (OfCopier p') placed (λ a b ne h. others a b ne (r.known a b h)) j v e);
+    within_one_stage = within_one_stage;
+    known = λ j v e. subst (λ (positions : ℕ). Knows ws plan positions j v) (sym (length-set s.views me (OfCopier p'))) (changed (Knows ws plan (length s.views)) s.views me (OfCopier p') own_view (λ a b ne h. others a b ne (r.known a b h)) j v e);
     copier = p';
     copier_is = ap (λ (x : ℕ). get_elem? (set s.views me (OfCopier p')) x) (sym position) ∙ set_here s.views me (OfCopier p') (at_inside s.views me (OfCopier p) at);
     slots = λ k l. slots k l (subst (λ (x : CopierView). Slot s.words k x) is (r.slots k l));
@@ -110,8 +110,8 @@ module _ (plan : PlanView) where
   apart P ws i k x ne ne2 = subst (λ (z : ℕ × ℕ). P z.0 z.1) (λ c. (sym (get_or-set_other ws i k x 0 ne) c, sym (get_or-set_other ws i (m + k) x 0 ne2) c))
 
   -- a store to a copy of a slot leaves the stages
-  paced_apart : (ws : List ℕ) (i x : ℕ) → i < m + m → Paced ws → Paced (set ws i x)
-  paced_apart ws i x l paced j lj = subst (λ (z : ℕ × ℕ). IsPostedOrOneLess z.0 z.1) (λ c. (sym (get_or-set_other ws i (m + m + j) x 0 (λ e. omega arith)) c, sym (get_or-set_other ws i (m + m + n) x 0 (λ e. omega arith)) c)) (paced j lj)
+  paced_apart : (ws : List ℕ) (i x : ℕ) → i < m + m → WithinOneStage ws → WithinOneStage (set ws i x)
+  paced_apart ws i x l within_one_stage j lj = subst (λ (z : ℕ × ℕ). IsPostedOrOneLess z.0 z.1) (λ c. (sym (get_or-set_other ws i (m + m + j) x 0 (λ e. omega arith)) c, sym (get_or-set_other ws i (m + m + n) x 0 (λ e. omega arith)) c)) (within_one_stage j lj)
 
   knows_apart : (positions : ℕ) (ws : List ℕ) (i x : ℕ) → i < m + m → (j : ℕ) (v : View) → Knows ws plan positions j v → Knows (set ws i x) plan positions j v
   knows_apart positions ws i x l j (OfWriter q) k = record {
@@ -148,7 +148,7 @@ module _ (plan : PlanView) where
   writer_loads : (s : Table) (r : KeepsFlip plan s) (i id : ℕ) (q q' : WriterView) → get_elem? s.views id ≡ some (OfWriter q) → IsWriterView s.words plan id q' → ((k : ℕ) → Twin s.words k q r.copier → Twin s.words k q' r.copier)
       → KeepsFlip plan record { words = set s.words i (get_or s.words i 0); homes = s.homes; views = set s.views id (OfWriter q') }
   writer_loads s r i id q q' at knows twin = subst (λ (ws : List ℕ). KeepsFlip plan record { words = ws; homes = s.homes; views = set s.views id (OfWriter q') }) (sym (set-get_or s.words i 0))
-      (writer_steps s r s.words s.homes id q q' at refl r.paced knows (λ j v _ k. k) (λ k _ t. t) (λ k _ _ t. twin k t) (λ k a _ _ t. t))
+      (writer_steps s r s.words s.homes id q q' at refl r.within_one_stage knows (λ j v _ k. k) (λ k _ t. t) (λ k _ _ t. twin k t) (λ k a _ _ t. t))
 
   slot_loads : (s : Table) (r : KeepsFlip plan s) (i id x : ℕ) (q : WriterView) → get_elem? s.views id ≡ some (OfWriter q)
       → KeepsFlip plan record { words = set s.words i (get_or s.words i 0); homes = s.homes; views = set s.views id (OfWriter (loading_writer q i x)) }
@@ -213,7 +213,7 @@ module _ (plan : PlanView) where
         OfWriter q',
         keeps,
         tt,
-        writer_steps s r ws s.homes id q q' at (length-set s.words i x) (paced_apart s.words i x (omega arith) r.paced)
+        writer_steps s r ws s.homes id q q' at (length-set s.words i x) (paced_apart s.words i x (omega arith) r.within_one_stage)
             record {
               plan_is = u.plan_is;
               position_is = u.position_is;
@@ -271,12 +271,12 @@ module _ (plan : PlanView) where
       (λ e. let a : taken ws j ≡ x = ap (λ (z : ℕ). taken ws z) e ∙ here in let b : taken s.words j ≡ q.taken_up = ap (λ (z : ℕ). taken s.words z) e ∙ w.taken_up_is in omega (arith, a, b, w.taken_up_polled))
       (λ ne. omega (arith, there j ne)) in
       let below : (j : ℕ) → j < n → taken ws j ≤ stage s.words = λ j lj. dite (ℕ_discrete j q.index)
-      (λ e. let a : taken ws j ≡ x = ap (λ (z : ℕ). taken ws z) e ∙ here in omega (arith, a, w.polled_stage)) (λ ne. let c = r.paced j lj in omega (arith, there j ne, c.0)) in (
+      (λ e. let a : taken ws j ≡ x = ap (λ (z : ℕ). taken ws z) e ∙ here in omega (arith, a, w.polled_stage)) (λ ne. let c = r.within_one_stage j lj in omega (arith, there j ne, c.0)) in (
         OfWriter (record q { taken_up = x }),
         keeps,
         tt,
         writer_steps s r ws s.homes id q (record q { taken_up = x }) at (length-set s.words i x)
-            (λ j lj. let c = r.paced j lj in (omega (arith, below j lj, top), omega (arith, grows j, c.1, top)))
+            (λ j lj. let c = r.within_one_stage j lj in (omega (arith, below j lj, top), omega (arith, grows j, c.1, top)))
             record {
               plan_is = w.plan_is;
               position_is = w.position_is;
@@ -327,7 +327,7 @@ module _ (plan : PlanView) where
   -- the stage, as a seat polls it
   pub polls : (slots id : ℕ) (q : WriterView)
       → Allows (KeepsFlip plan) slots id (OfWriter q, []) (m + m + n) (λ x. x) (λ x (me : Holder). (me ≡ (OfWriter (record q { polled = x; polls = q.polls + 1 }), [])) × IsPostedOrOneLess q.taken_up x × (q.polled ≤ x) × (x ≤ 2))
-  polls slots id q s r _ at _ = let w : IsWriterView s.words plan id q = r.known id (OfWriter q) at in let o : IsCopierView s.words plan (length s.views) 0 r.copier = r.known 0 (OfCopier r.copier) r.copier_is in let x : ℕ = stage s.words in let c = r.paced q.index w.in_range in let q' : WriterView = record q { polled = x; polls = q.polls + 1 } in (
+  polls slots id q s r _ at _ = let w : IsWriterView s.words plan id q = r.known id (OfWriter q) at in let o : IsCopierView s.words plan (length s.views) 0 r.copier = r.known 0 (OfCopier r.copier) r.copier_is in let x : ℕ = stage s.words in let c = r.within_one_stage q.index w.in_range in let q' : WriterView = record q { polled = x; polls = q.polls + 1 } in (
     OfWriter q',
     keeps,
     tt,
@@ -357,7 +357,7 @@ module _ (plan : PlanView) where
       let q' : WriterView = record q { written = written'; wrote = wrote'; pending = None } in let u : IsWriterView ws plan id q = knows_apart (length s.views) s.words j x (omega arith) id (OfWriter q) w in
       let here : (k : ℕ) → k ≡ i → second ws k ≡ x = λ k e. ap (λ (z : ℕ). get_or ws (m + z) 0) e ∙ get_or-set_same s.words j x 0 (omega (arith, r.words_are)) in
       let stays : (k : ℕ) → k < m → first ws k ≡ first s.words k = λ k lk. get_or-set_other s.words j k x 0 (λ e. omega arith) in
-      writer_steps s r ws s.homes id q q' at (length-set s.words j x) (paced_apart s.words j x (omega arith) r.paced)
+      writer_steps s r ws s.homes id q q' at (length-set s.words j x) (paced_apart s.words j x (omega arith) r.within_one_stage)
       record {
         plan_is = u.plan_is;
         position_is = u.position_is;
@@ -430,12 +430,12 @@ module _ (plan : PlanView) where
   copier_loads : (s : Table) (r : KeepsFlip plan s) (i me : ℕ) (p p' : CopierView) → get_elem? s.views me ≡ some (OfCopier p) → IsCopierView s.words plan (length s.views) me p' → ((k : ℕ) → k < m → Slot s.words k p → Slot s.words k p')
       → ((k : ℕ) (q : WriterView) → k < m → IsWriterView s.words plan (owner k + 1) q → Twin s.words k q p → Twin s.words k q p')
       → KeepsFlip plan record { words = set s.words i (get_or s.words i 0); homes = s.homes; views = set s.views me (OfCopier p') }
-  copier_loads s r i me p p' at placed slots step_of = subst (λ (ws : List ℕ). KeepsFlip plan record { words = ws; homes = s.homes; views = set s.views me (OfCopier p') }) (sym (set-get_or s.words i 0))
-      (copier_steps s r s.words s.homes me p p' at refl r.paced placed (λ j v _ k. k) slots step_of)
+  copier_loads s r i me p p' at own_view slots step_of = subst (λ (ws : List ℕ). KeepsFlip plan record { words = ws; homes = s.homes; views = set s.views me (OfCopier p') }) (sym (set-get_or s.words i 0))
+      (copier_steps s r s.words s.homes me p p' at refl r.within_one_stage own_view (λ j v _ k. k) slots step_of)
 
   -- at stage 0 no slot is retired, as there is a seat
   ended : (s : Table) (r : KeepsFlip plan s) (id i : ℕ) (p : CopierView) → i < m → IsCopierView s.words plan (length s.views) id p → p.stage ≡ 0 → get_or p.retired i false ≢ true
-  ended s r id i p l o zero_is d = let j : ℕ = owner i in let lj : j < n = r.owned i l in let two : get_or p.found j 0 ≡ 2 = o.all_found i d j lj in let f = o.found_since j lj in let c = r.paced j lj in omega (arith, two, f, c.0, o.stage_is)
+  ended s r id i p l o zero_is d = let j : ℕ = owner i in let lj : j < n = r.owned i l in let two : get_or p.found j 0 ≡ 2 = o.all_found i d j lj in let f = o.found_since j lj in let c = r.within_one_stage j lj in omega (arith, two, f, c.0, o.stage_is)
 
   -- only at stage 0 does the copier load a slot for copying
   pub loads_to_copy : (slots id i : ℕ) (p : CopierView) → i < m → p.stage ≡ 0
@@ -482,7 +482,7 @@ module _ (plan : PlanView) where
         OfCopier p',
         keeps,
         tt,
-        copier_steps s r ws s.homes id p p' at (length-set s.words j x) (paced_apart s.words j x (omega arith) r.paced)
+        copier_steps s r ws s.homes id p p' at (length-set s.words j x) (paced_apart s.words j x (omega arith) r.within_one_stage)
             record {
               plan_is = u.plan_is;
               position_is = u.position_is;
@@ -594,7 +594,7 @@ module _ (plan : PlanView) where
   -- the stage that a seat has taken up
   pub finds : (slots id j : ℕ) (p : CopierView) → j < n
       → Allows (KeepsFlip plan) slots id (OfCopier p, []) (m + m + j) (λ x. x) (λ x (me : Holder). (me ≡ (OfCopier (looking_copier p j x), [])) × IsPostedOrOneLess x p.stage × (get_or p.found j 0 ≤ x))
-  finds slots id j p l s r _ at _ = let o : IsCopierView s.words plan (length s.views) id p = r.known id (OfCopier p) at in let x : ℕ = taken s.words j in let c = r.paced j l in let p' : CopierView = looking_copier p j x in
+  finds slots id j p l s r _ at _ = let o : IsCopierView s.words plan (length s.views) id p = r.known id (OfCopier p) at in let x : ℕ = taken s.words j in let c = r.within_one_stage j l in let p' : CopierView = looking_copier p j x in
       let here : (a : ℕ) → a ≡ j → get_or (set p.found j x) a 0 ≡ x = λ a e. ap (λ (z : ℕ). get_or (set p.found j x) z 0) e ∙ get_or-set_same p.found j x 0 (omega (arith, o.found_each)) in (
         OfCopier p',
         keeps,
@@ -632,7 +632,7 @@ module _ (plan : PlanView) where
         keeps,
         tt,
         copier_steps s r ws s.homes id p p' at (length-set s.words i x)
-            (λ j lj. let c = r.paced j lj in let f = o.found_since j lj in let a = all j lj in (omega (arith, c.0, there j lj, here, o.stage_is), omega (arith, f, a, there j lj, here)))
+            (λ j lj. let c = r.within_one_stage j lj in let f = o.found_since j lj in let a = all j lj in (omega (arith, c.0, there j lj, here, o.stage_is), omega (arith, f, a, there j lj, here)))
             record {
               plan_is = o.plan_is;
               position_is = o.position_is;
@@ -680,7 +680,7 @@ module _ (plan : PlanView) where
         OfCopier p',
         keeps,
         tt,
-        copier_steps s r ws s.homes id p p' at (length-set s.words i retired_mark) (paced_apart s.words i retired_mark (omega arith) r.paced)
+        copier_steps s r ws s.homes id p p' at (length-set s.words i retired_mark) (paced_apart s.words i retired_mark (omega arith) r.within_one_stage)
             record {
               plan_is = u.plan_is;
               position_is = u.position_is;

@@ -85,7 +85,7 @@ Knows words plan positions position (OfCopier p) = IsCopierView words plan posit
 pub record KeepsFlip (plan : PlanView) (table : State (Unit {0}) View) : Type 0 where
   pub words_are : length table.words ≡ length plan.owners + length plan.owners + plan.seats + 1
   pub owned : (k : ℕ) → k < length plan.owners → slice_index plan.owners k < plan.seats
-  pub paced : (j : ℕ) → j < plan.seats
+  pub within_one_stage : (j : ℕ) → j < plan.seats
       → IsPostedOrOneLess (slice_index table.words (length plan.owners + length plan.owners + j)) (slice_index table.words (length plan.owners + length plan.owners + plan.seats))
   pub known : (position : ℕ) (view : View) → get_elem? table.views position ≡ some view → Knows table.words plan (length table.views) position view
   pub copier : CopierView

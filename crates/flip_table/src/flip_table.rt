@@ -273,7 +273,7 @@ impl FlipTable {
     pub fn poll(&self, mut writer: Writer) -> (u64, Writer)
         requires { IsWriterOf self.now writer }
         ensures writer { result.1 ≡ record writer { knows = record writer.knows { polled = result.0; polls = writer.knows.polls + 1 } } }
-        ensures paced { IsPostedOrOneLess writer.knows.taken_up result.0 }
+        ensures within_one_stage { IsPostedOrOneLess writer.knows.taken_up result.0 }
         ensures rises { writer.knows.polled ≤ result.0 }
         ensures last { result.0 ≤ 2 }
     {
@@ -342,7 +342,7 @@ impl FlipTable {
     pub fn find(&self, mut copier: Copier, seat: usize) -> (u64, Copier)
         requires { IsCopierOf self.now copier × (seat < self.now.plan.seats) }
         ensures copier { result.1 ≡ record copier { knows = looking_copier copier.knows seat result.0 } }
-        ensures paced { IsPostedOrOneLess result.0 copier.knows.stage }
+        ensures within_one_stage { IsPostedOrOneLess result.0 copier.knows.stage }
         ensures rises { slice_index copier.knows.found seat ≤ result.0 }
     {
         let word = self.slots + self.slots + seat;

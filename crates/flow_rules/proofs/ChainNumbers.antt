@@ -15,7 +15,7 @@ use Rattle.cil_model.proofs.SameLaws.{same_class_equal, same_class_itself, class
 use Rattle.resolved_code.specs.ById.{class_name}
 use Rattle.resolved_code.specs.declared.types.ResolvedElement.TheVariants.{Class}
 use Rattle.resolved_code.specs.declared.classes.ResolvedClass.{ResolvedClass}
-use Rattle.flow_rules.specs.Named.{class_named}
+use Rattle.flow_rules.specs.StackTypes.{class_named}
 use Rattle.flow_rules.specs.Merging.{IsClassAt}
 use Rattle.flow_rules.proofs.Classes.{one_element, own_declaration, element_at_number, base_at, base_known}
 

@@ -20,13 +20,13 @@ use Rattle.name_tables.specs.Numbers.{declarations, class_number, source_entry}
 use Rattle.name_tables.proofs.NumberLaws.{HasId, has_id}
 use Rattle.resolved_code.proofs.Numbers.Classes.{number_of_index}
 use Rattle.resolved_code.specs.ById.{class_name}
-use Rattle.resolved_code.specs.Resolved.{AreResolved, IsResolvedClass}
+use Rattle.resolved_code.specs.ResolvedPrograms.{AreResolved, IsResolvedClass}
 use Rattle.resolved_code.proofs.ListLaws.RelatedLists.{AlikeTo, alike_to, alike_beyond, alike_length}
 use Rattle.resolved_code.specs.declared.classes.ResolvedClass.{ResolvedClass}
 use Rattle.resolved_code.specs.declared.types.ResolvedElement.{ResolvedElement}
 use Rattle.resolved_code.specs.declared.types.ResolvedElement.TheVariants.{Int32, Int64, Object, String, Class}
 use Rattle.resolved_code.specs.declared.types.ResolvedType.{ResolvedType}
-use Rattle.flow_rules.specs.Named.{class_named, element_named, type_named, is_known}
+use Rattle.flow_rules.specs.StackTypes.{class_named, element_named, type_named, is_known}
 use Rattle.flow_rules.specs.Merging.{IsClassAt}
 
 pub if_some_then : {T : Type 0} (o : Option T) (P Q : T → Type 0) → ((v : T) → P v → Q v) → IfSome o P → IfSome o Q

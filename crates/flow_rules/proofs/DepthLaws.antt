@@ -9,7 +9,7 @@ use Rattle.cil_model.proofs.MergeLaws.{on_from}
 use Rattle.cil_model.proofs.Lists.{none_is_some}
 use Rattle.cil_model.proofs.BelowLaws.{declared_is_null, declared_is_native, climb, transitive}
 use Rattle.flow_rules.specs.Merging.{IsDepth, AreLevel, IsMerged}
-use Rattle.flow_rules.specs.Named.{type_named}
+use Rattle.flow_rules.specs.StackTypes.{type_named}
 use Rattle.resolved_code.specs.declared.types.ResolvedType.{ResolvedType}
 use Rattle.flow_rules.specs.declared.entries.StackEntry.TheVariants as Entry
 use Rattle.flow_rules.proofs.AncestorChains.{beyond, closest, apart}

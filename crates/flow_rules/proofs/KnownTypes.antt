@@ -14,7 +14,7 @@ use Rattle.resolved_code.specs.declared.types.ResolvedElement.{ResolvedElement}
 use Rattle.resolved_code.specs.declared.types.ResolvedElement.TheVariants.{Int32, Int64, Object, String, Class}
 use Rattle.resolved_code.specs.declared.types.ResolvedType.{ResolvedType}
 use Rattle.resolved_code.specs.declared.type_tests.TypeTest.TheVariants.{OfClasses}
-use Rattle.flow_rules.specs.Named.{class_named, element_named, type_named, is_known}
+use Rattle.flow_rules.specs.StackTypes.{class_named, element_named, type_named, is_known}
 use Rattle.flow_rules.proofs.Classes.{element_at_number}
 
 module _ (tree : Tree) where

@@ -12,7 +12,7 @@ use Rattle.cil_model.proofs.Lists.{none_is_some}
 use Rattle.resolved_code.specs.declared.types.ResolvedElement.{ResolvedElement}
 use Rattle.resolved_code.specs.declared.types.ResolvedElement.TheVariants.{Object, Class}
 use Rattle.resolved_code.specs.declared.types.ResolvedType.{ResolvedType}
-use Rattle.flow_rules.specs.Named.{element_named, type_named}
+use Rattle.flow_rules.specs.StackTypes.{element_named, type_named}
 use Rattle.flow_rules.specs.Merging.{IsDepth, IsUp, IsLine, AreLines}
 use Rattle.flow_rules.proofs.AncestorChains.{next, closest, type_ends}
 use Rattle.flow_rules.proofs.DepthLaws.{common_height}

@@ -18,7 +18,7 @@ use Rattle.cil_model.proofs.SameLaws.{both_first, both_second, same_type_equal, 
 use Rattle.name_tables.specs.Numbers.{declarations, member_at, method_at}
 use Rattle.resolved_code.specs.ById.{class_name, type_at}
 use Rattle.resolved_code.specs.declared.types.ResolvedType.{ResolvedType}
-use Rattle.flow_rules.specs.Named.{type_named}
+use Rattle.flow_rules.specs.StackTypes.{type_named}
 use Rattle.flow_rules.specs.Merging.{IsClassAt}
 use Rattle.cil_model.specs.declared.types.Signature.{Signature}
 use Rattle.cil_model.specs.declared.trees.MethodKind.{MethodKind}
@@ -31,7 +31,7 @@ use Rattle.cil_model.specs.Declarations.{declaration_of}
 use Rattle.cil_model.specs.Legality.{IsLegal}
 use Rattle.name_tables.specs.declared.ids.FieldId.{FieldId}
 use Rattle.name_tables.specs.declared.ids.MethodId.{MethodId}
-use Rattle.resolved_code.specs.Resolved.{IsField, IsMethod, IsResolvedField, IsResolvedKind, IsResolvedMethod}
+use Rattle.resolved_code.specs.ResolvedPrograms.{IsField, IsMethod, IsResolvedField, IsResolvedKind, IsResolvedMethod}
 use Rattle.resolved_code.specs.declared.classes.ResolvedField.{ResolvedField}
 use Rattle.resolved_code.specs.declared.classes.ResolvedKind.{ResolvedKind}
 use Rattle.resolved_code.specs.declared.classes.ResolvedKind.TheVariants as KindOf

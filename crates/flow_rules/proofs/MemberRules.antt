@@ -18,7 +18,7 @@ use Rattle.cil_model.specs.TypeTree as OnStack
 use Rattle.cil_model.specs.FlowRules.{StackAfter, take_operands, give, is_concrete}
 use Rattle.resolved_code.specs.declared.types.ResolvedType.{ResolvedType}
 use Rattle.resolved_code.specs.declared.classes.ResolvedMethod.{ResolvedMethod}
-use Rattle.flow_rules.specs.Named.{type_named, types_named, stack_types}
+use Rattle.flow_rules.specs.StackTypes.{type_named, types_named, stack_types}
 use Rattle.flow_rules.specs.Flow.{flow_of}
 use Rattle.flow_rules.specs.Members.{IsCallable, operands_named}
 use Rattle.flow_rules.specs.declared.entries.StackEntry.{StackEntry}

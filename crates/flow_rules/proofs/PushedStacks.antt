@@ -2,7 +2,7 @@
 use Rattle.std.proofs.Common.{◌≡◌, List, ◌∷◌, Some, sym, ap, subst}
 use Rattle.std.specs.Prelude.{Result, Ok, Err, OnOk, IfErr}
 use Rattle.cil_model.specs.declared.trees.Tree.{Tree}
-use Rattle.flow_rules.specs.Named.{stack_type, stack_types}
+use Rattle.flow_rules.specs.StackTypes.{stack_type, stack_types}
 use Rattle.flow_rules.specs.Flow.{IsAfter}
 use Rattle.flow_rules.specs.declared.entries.StackEntry.{StackEntry}
 use Rattle.flow_rules.specs.declared.mismatches.FlowError.{FlowError}

@@ -3,7 +3,7 @@ use Rattle.std.specs.Prelude.{◌≡◌, List, Some, None, option_map, Result, O
 use Rattle.cil_model.specs.declared.instructions.Instruction.{Instruction}
 use Rattle.cil_model.specs.declared.trees.Tree.{Tree}
 use Rattle.cil_model.specs.FlowRules.{StackAfter, flow}
-use Rattle.flow_rules.specs.Named.{type_named, types_named, stack_types}
+use Rattle.flow_rules.specs.StackTypes.{type_named, types_named, stack_types}
 use Rattle.flow_rules.specs.declared.entries.StackEntry.{StackEntry}
 use Rattle.flow_rules.specs.declared.mismatches.FlowError.{FlowError}
 use Rattle.flow_rules.specs.declared.mismatches.FlowError.TheVariants.{Mismatch, OutOfMemory}

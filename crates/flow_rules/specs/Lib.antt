@@ -1,4 +1,4 @@
-pub mod Named
+pub mod StackTypes
 pub mod Merging
 pub mod Flow
 pub mod Members

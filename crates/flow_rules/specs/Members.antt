@@ -9,7 +9,7 @@ use Rattle.resolved_code.specs.declared.types.ResolvedType.{ResolvedType}
 use Rattle.resolved_code.specs.declared.classes.ResolvedMethod.{ResolvedMethod}
 use Rattle.resolved_code.specs.declared.classes.ResolvedKind.{ResolvedKind}
 use Rattle.resolved_code.specs.declared.classes.ResolvedKind.TheVariants.{Static, Instance, Virtual, Abstract}
-use Rattle.flow_rules.specs.Named.{type_named, types_named}
+use Rattle.flow_rules.specs.StackTypes.{type_named, types_named}
 use Rattle.flow_rules.specs.declared.mismatches.FlowError.{FlowError}
 
 -- the result is a number of the type

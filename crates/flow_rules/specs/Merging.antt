@@ -6,12 +6,12 @@ use Rattle.cil_model.specs.Declarations.{Declaration}
 use Rattle.name_tables.specs.Numbers.{declarations}
 use Rattle.cil_model.specs.declared.trees.Tree.{Tree}
 use Rattle.cil_model.specs.TypeTree.{StackType, IsBelow, IsMerge, parent, ancestor}
-use Rattle.resolved_code.specs.Resolved.{AreResolved, IsResolvedClass}
+use Rattle.resolved_code.specs.ResolvedPrograms.{AreResolved, IsResolvedClass}
 use Rattle.resolved_code.specs.declared.classes.ResolvedClass.{ResolvedClass}
 use Rattle.cil_model.specs.Legality.{IsLegal}
 use Rattle.resolved_code.specs.declared.types.ResolvedElement.{ResolvedElement}
 use Rattle.resolved_code.specs.declared.types.ResolvedElement.TheVariants.{Class}
-use Rattle.flow_rules.specs.Named.{element_named, stack_type}
+use Rattle.flow_rules.specs.StackTypes.{element_named, stack_type}
 use Rattle.flow_rules.specs.declared.entries.StackEntry.{StackEntry}
 
 -- the merge, or that no type is above both (III.1.8.1.3)

@@ -10,10 +10,10 @@ use Rattle.cil_model.specs.declared.instructions.Instruction.TheVariants as Name
 use Rattle.cil_model.specs.declared.trees.Tree.{Tree}
 use Rattle.cil_model.specs.Bodies.{virtual_reference, constructor_reference}
 use Rattle.resolved_code.specs.ById.{class_name}
-use Rattle.resolved_code.specs.Resolved.{IsField, IsMethod}
+use Rattle.resolved_code.specs.ResolvedPrograms.{IsField, IsMethod}
 use Rattle.resolved_code.specs.declared.operations.Operation.{Operation}
 use Rattle.resolved_code.specs.declared.operations.Operation.TheVariants as Resolved
-use Rattle.flow_rules.specs.Named.{type_named}
+use Rattle.flow_rules.specs.StackTypes.{type_named}
 
 -- the property, of each instruction with the operands that the numbers represent
 abbrev pub OfEach : Tree → (Instruction → Type 0) → Operation → Type 0

@@ -4,7 +4,7 @@ ghost use Rattle.std.specs.Prelude.{◌≡◌};
 ghost use Rattle.cil_model.specs.declared.trees.Tree.{Tree};
 ghost use Rattle.cil_model.specs.Assignable.{is_reference};
 ghost use Rattle.cil_model.specs.FlowRules.{is_int32_type, is_int64_type, is_int32, is_int64, is_integer, is_any_reference, is_index, are_integers, are_comparable};
-ghost use Rattle.flow_rules.specs.Named.{type_named, stack_type};
+ghost use Rattle.flow_rules.specs.StackTypes.{type_named, stack_type};
 
 use cil_model::values::ValueKind;
 use resolved_code::types::{ResolvedElement, ResolvedType};

@@ -5,7 +5,7 @@ ghost use Rattle.cil_model.specs.declared.trees.Tree.{Tree};
 ghost use Rattle.cil_model.specs.TypeTree.{IsBelow};
 ghost use Rattle.cil_model.specs.TypeTree as OnStack;
 ghost use Rattle.resolved_code.specs.declared.types.ResolvedElement.TheVariants.{Class, String};
-ghost use Rattle.flow_rules.specs.Named.{type_named};
+ghost use Rattle.flow_rules.specs.StackTypes.{type_named};
 ghost use Rattle.flow_rules.specs.Merging.{IsUp, AreLines};
 
 use cil_model::trees::Tree;

@@ -14,11 +14,11 @@ ghost use Rattle.cil_model.specs.TypeTree as OnStack;
 ghost use Rattle.cil_model.specs.FlowRules.{take_operands, give, is_concrete};
 ghost use Rattle.cil_model.specs.Legality.{IsLegal};
 ghost use Rattle.resolved_code.specs.ById.{class_name};
-ghost use Rattle.resolved_code.specs.Resolved.{IsField, IsMethod};
+ghost use Rattle.resolved_code.specs.ResolvedPrograms.{IsField, IsMethod};
 ghost use Rattle.flow_rules.specs.Flow.{IsAfter, flow_of};
 ghost use Rattle.flow_rules.specs.Merging.{IsClassAt};
 ghost use Rattle.flow_rules.specs.Members.{GivesType, IsCallable, is_abstract_kind, operands_named};
-ghost use Rattle.flow_rules.specs.Named.{stack_types, type_named, types_named};
+ghost use Rattle.flow_rules.specs.StackTypes.{stack_types, type_named, types_named};
 
 use crate::entries::StackEntry;
 use crate::method_types::MethodTypes;

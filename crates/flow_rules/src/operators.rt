@@ -3,7 +3,7 @@
 ghost use Rattle.std.specs.Prelude.{◌≡◌, ◌∷◌, Some, option_map};
 ghost use Rattle.cil_model.specs.declared.trees.Tree.{Tree};
 ghost use Rattle.flow_rules.specs.Flow.{IsAfter, flow_of};
-ghost use Rattle.flow_rules.specs.Named.{stack_type, stack_types, type_named};
+ghost use Rattle.flow_rules.specs.StackTypes.{stack_type, stack_types, type_named};
 ghost use Rattle.flow_rules.specs.declared.method_types.MethodTypes.{MethodTypes};
 ghost use Rattle.cil_model.specs.FlowRules.{if_allowed};
 ghost use Rattle.cil_model.specs.declared.instructions.BinaryOperation.{BinaryOperation};

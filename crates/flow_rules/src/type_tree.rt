@@ -13,7 +13,7 @@ ghost use Rattle.cil_model.specs.Legality.{IsLegal};
 ghost use Rattle.resolved_code.specs.ById.{class_name};
 ghost use Rattle.resolved_code.specs.declared.types.ResolvedElement.TheVariants.{Object, Class};
 ghost use Rattle.flow_rules.specs.declared.entries.StackEntry.TheVariants.{Declared, Null};
-ghost use Rattle.flow_rules.specs.Named.{type_named, element_named, class_named, is_known};
+ghost use Rattle.flow_rules.specs.StackTypes.{type_named, element_named, class_named, is_known};
 ghost use Rattle.flow_rules.specs.Merging.{AreClasses, AreLevel, IsClassAt, IsDepth, IsFork, IsMerged, IsLine, AreLines};
 
 use crate::entries::{StackEntry, is_reference};

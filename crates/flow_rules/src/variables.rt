@@ -6,7 +6,7 @@ ghost use Rattle.cil_model.specs.FlowRules.{take_operands, take_returned, load, 
 ghost use Rattle.cil_model.specs.TypeTree.{fits};
 ghost use Rattle.cil_model.specs.declared.instructions.Instruction.TheVariants as Named;
 ghost use Rattle.flow_rules.specs.Flow.{IsAfter, flow_of};
-ghost use Rattle.flow_rules.specs.Named.{stack_type, stack_types, type_named, types_named};
+ghost use Rattle.flow_rules.specs.StackTypes.{stack_type, stack_types, type_named, types_named};
 
 use crate::entries::{StackEntry, is_reference};
 use crate::method_types::MethodTypes;

@@ -22,10 +22,10 @@ use Rattle.cil_model.specs.Spans.{◌▸◌, item, present, each}
 use Rattle.cil_model.specs.Grammar.{Span, word, sign, name, ref, ret, parameter, method_name, instr, line, locals, code, words_before, body, method, field, member, interface_member, implements, class_of_kind, class_of, extern, assembly, IsUnit}
 use Rattle.ilasm_tokens.specs.Steps.{choice, bind_at, choice_at, choice_past, Sound}
 use Rattle.ilasm_tokens.proofs.Many.{CompleteBefore, Complete, ends, many_complete}
-use Rattle.ilasm_reader.specs.declared.methods.Beginning.{Beginning}
-use Rattle.ilasm_reader.specs.declared.methods.Beginning.TheVariants.{Static, Instance, Virtual, Abstract, Constructor}
+use Rattle.ilasm_reader.specs.declared.methods.HeadKind.{HeadKind}
+use Rattle.ilasm_reader.specs.declared.methods.HeadKind.TheVariants.{Static, Instance, Virtual, Abstract, Constructor}
 use Rattle.ilasm_reader.specs.Parsing.{Parser, word_at, sign_at, name_at, before_sign_at, in_block, class_name_at, parameter_at, label_at, starts_label, line_at, some_locals_at, locals_at, max_stack_at, code_start_at, lines_at, code_at, virtual_words_at, constructor_words_at, first_words_at, named_head_at, constructor_head_at, head_at, signature_at, code_body_at, body_at, managed_body_at, method_words_at, method_at, field_words_at, field_at, interface_member_at, member_at, block_at, implements_at, interface_words_at, interface_at, class_words_at, base_at, class_body_at, plain_class_at, class_at, named_assembly_at, starts_extern, extern_at, assembly_at, tree_at}
-use Rattle.ilasm_reader.specs.Sound.{parameter_sound, class_name_sound, label_sound, line_sound, code_start, beginning, block, interface_member_sound, member_sound, class_sound, extern_sound, tree_sound}
+use Rattle.ilasm_reader.specs.Sound.{parameter_sound, class_name_sound, label_sound, line_sound, code_start, head_kind_words, block, interface_member_sound, member_sound, class_sound, extern_sound, tree_sound}
 use Rattle.ilasm_reader.proofs.Complete.{word_complete, sign_complete, name_complete, integer_complete, name_no_sign, word_no_sign, sign_no_sign, name_no_word, sign_no_word, word_no_word, end_no_word, no_brackets, flag_complete, skip_complete, EndsItem, EndsType, sign_ends, sign_no_comma, commas_complete, closed_commas_complete, parentheses_complete, empty_block_complete, pair_given, end_closes, nothing_left, class_name_complete, type_complete, parameter_complete, element_no_word, parameter_open, return_type_complete, spelled, instruction_complete, form_apart, no_form}
 
 -- ---- code
@@ -100,10 +100,10 @@ code_complete x ts rest (a, p, (b, q, (c, r, (d, s, (e, t, (f, u, v)))))) =
 
 -- ---- methods
 
--- the words before a method, as its beginning, and what its head and its kind have to be
+-- the words before a method, as its head kind, and what its head and its kind have to be
 record Begun (n : MethodName) (t : Option DeclaredType) (k : MethodKind) (ts rest : List Token) : Type 0 where
-  begun : Beginning
-  words : beginning begun ts rest
+  begun : HeadKind
+  words : head_kind_words begun ts rest
   head_read : (us vs : List Token) → EndsItem vs → (ret t ▸ method_name n) us vs → head_at begun us ≡ Some ((t, n), vs)
   body_read : (us vs : List Token) → body k us vs → body_at begun us ≡ Some (k, vs)
 
@@ -158,7 +158,7 @@ constructor_words_complete : (ts rest : List Token) → (word (codes "rtspecialn
 unfolding constructor_words_at
 constructor_words_complete ts rest (a, p, q) = bind_at _ (word_complete (codes "rtspecialname") p) (word_complete (codes "instance") q)
 
-first_words_complete : Complete first_words_at beginning
+first_words_complete : Complete first_words_at head_kind_words
 unfolding first_words_at
 first_words_complete Static ts rest p = choice_at _ _ (word_complete (codes "static") p) refl
 first_words_complete Instance ts rest p = choice_past _ (word_no_word (codes "static") (codes "instance") refl p) (choice_at _ _ (word_complete (codes "instance") p) refl)
@@ -172,7 +172,7 @@ first_words_complete (Abstract n) ts rest (a, p, (b, q, (c, r, s))) =
     choice_past _ (first_virtual n true ts a b c p q r (codes "static") refl refl refl) (choice_past _ (first_virtual n true ts a b c p q r (codes "instance") refl refl refl)
     (choice_past _ (first_virtual n true ts a b c p q r (codes "specialname") refl refl refl) (virtual_words_complete n true ts a b c rest p q r s)))
 
-no_hidebysig : (b : Beginning) (ts rest : List Token) → beginning b ts rest → word_at (codes "hidebysig") ts ≡ None
+no_hidebysig : (b : HeadKind) (ts rest : List Token) → head_kind_words b ts rest → word_at (codes "hidebysig") ts ≡ None
 no_hidebysig Static ts rest p = word_no_word (codes "hidebysig") (codes "static") refl p
 no_hidebysig Instance ts rest p = word_no_word (codes "hidebysig") (codes "instance") refl p
 no_hidebysig Constructor ts rest (a, p, q) = word_no_word (codes "hidebysig") (codes "specialname") refl p

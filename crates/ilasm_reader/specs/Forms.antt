@@ -6,6 +6,7 @@ use Rattle.std.specs.Ordering.{int_eq}
 use Rattle.std.specs.Int.{w32}
 use Rattle.std.proofs.lemmas.Slice.Eq.{bytes_eq-Decides}
 use Rattle.std.proofs.lemmas.Bool.Decides.{Decides-int_eq}
+use Rattle.std.proofs.lemmas.Bool.{and_parts}
 use Rattle.cil_model.specs.declared.tokens.Token.{Token}
 use Rattle.cil_model.specs.declared.tokens.Token.TheVariants.{Integer, Quoted as QuotedToken}
 use Rattle.cil_model.specs.declared.types.ClassName.{ClassName}
@@ -29,7 +30,7 @@ use Rattle.ilasm_tokens.specs.declared.words.WithInteger.TheVariants as integers
 use Rattle.ilasm_tokens.specs.declared.words.FieldAccess.TheVariants as accesses
 use Rattle.ilasm_tokens.specs.declared.words.WithType.TheVariants as with_types
 use Rattle.ilasm_tokens.specs.Vocabulary.{use_of}
-use Rattle.ilasm_tokens.proofs.Reserved.{both, of_entries}
+use Rattle.ilasm_tokens.proofs.Reserved.{of_entries}
 use Rattle.ilasm_reader.specs.Parsing.{bare, with_integer, with_field, with_type, form_of}
 
 -- what follows the name of an instruction
@@ -123,7 +124,7 @@ among [] w z e = absurd cc
 among (x ∷ es) w z e =
     elim (is_entry w z x) as (λ b. is_entry w z x ≡ b → (b || list_any (is_entry w z) es) ≡ true → Contains (x ∷ es) (w, z)) [
       | true ↦ λ here _.
-          let parts = both (bytes_eq x.0 w) (int_eq x.1 z) here in
+          let parts = and_parts (bytes_eq x.0 w) (int_eq x.1 z) here in
           let first = (bytes_eq-Decides x.0 w).0 parts.0 in
           let second = (Decides-int_eq x.1 z).0 parts.1 in
           let same : x ≡ (w, z) = λ i. (first i, second i) in

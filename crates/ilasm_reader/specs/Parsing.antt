@@ -41,8 +41,8 @@ use Rattle.ilasm_tokens.specs.declared.words.WithType.TheVariants as with_types
 use Rattle.ilasm_tokens.specs.Steps.{◌>>=◌, choice, ParserOf, with_front, many}
 use Rattle.ilasm_tokens.specs.Vocabulary.{use_of}
 use Rattle.ilasm_tokens.specs.Parts.{reserved_in, name_in, integer_in, quoted_in, symbol_in}
-use Rattle.ilasm_reader.specs.declared.methods.Beginning.{Beginning}
-use Rattle.ilasm_reader.specs.declared.methods.Beginning.TheVariants.{Static, Instance, Virtual, Abstract, Constructor}
+use Rattle.ilasm_reader.specs.declared.methods.HeadKind.{HeadKind}
+use Rattle.ilasm_reader.specs.declared.methods.HeadKind.TheVariants.{Static, Instance, Virtual, Abstract, Constructor}
 
 abbrev pub Parser : Type 0 → Type 0
 Parser A = ParserOf Token A
@@ -396,7 +396,7 @@ code_at ts = do
 
 -- ---- methods
 
-unfoldable pub virtual_words_at : Parser Beginning
+unfoldable pub virtual_words_at : Parser HeadKind
 virtual_words_at ts = do
   following ← word_at (codes "virtual") (flag_at (codes "abstract") (flag_at (codes "newslot") ts).1).1
   rest ← word_at (codes "instance") following
@@ -408,7 +408,7 @@ constructor_words_at ts = do
   rest ← word_at (codes "rtspecialname") ts
   word_at (codes "instance") rest
 
-unfoldable pub first_words_at : Parser Beginning
+unfoldable pub first_words_at : Parser HeadKind
 first_words_at ts = choice (word_at (codes "static") ts) (λ rest. Some (Static, rest))
     (choice (word_at (codes "instance") ts) (λ rest. Some (Instance, rest))
     (choice (word_at (codes "specialname") ts) (λ special. do
@@ -427,45 +427,45 @@ constructor_head_at ts = do
   rest ← word_at (codes ".ctor") following
   Some ((None, ConstructorName), rest)
 
-unfoldable pub head_at : Beginning → Parser (Option DeclaredType × MethodName)
+unfoldable pub head_at : HeadKind → Parser (Option DeclaredType × MethodName)
 head_at Constructor ts = constructor_head_at ts
 head_at _ ts = named_head_at ts
 
 -- the name, the return type and the parameters
-unfoldable pub signature_at : Beginning → Parser (MethodName × Signature)
-signature_at beginning ts = do
-  head ← head_at beginning ts
+unfoldable pub signature_at : HeadKind → Parser (MethodName × Signature)
+signature_at head_kind ts = do
+  head ← head_at head_kind ts
   parameters ← parentheses_at parameter_at head.1
   Some ((head.0.1, record { parameters = parameters.0; return_type = head.0.0 }), parameters.1)
 
 -- the kind of a method that has code
-abbrev pub kind_with : Beginning → Code → MethodKind
+abbrev pub kind_with : HeadKind → Code → MethodKind
 kind_with Static code = kinds.Static code
 kind_with Instance code = kinds.Instance code
 kind_with (Virtual is_new_slot) code = kinds.Virtual is_new_slot code
 kind_with (Abstract is_new_slot) code = kinds.Instance code
 kind_with Constructor code = kinds.Instance code
 
-unfoldable pub code_body_at : Beginning → Parser MethodKind
-code_body_at beginning ts = do
+unfoldable pub code_body_at : HeadKind → Parser MethodKind
+code_body_at head_kind ts = do
   code ← code_at ts
-  Some (kind_with beginning code.0, code.1)
+  Some (kind_with head_kind code.0, code.1)
 
-unfoldable pub body_at : Beginning → Parser MethodKind
+unfoldable pub body_at : HeadKind → Parser MethodKind
 body_at (Abstract is_new_slot) ts = do
   rest ← empty_block_at ts
   Some (kinds.Abstract is_new_slot, rest)
-body_at beginning ts = code_body_at beginning ts
+body_at head_kind ts = code_body_at head_kind ts
 
 -- the body after `cil managed`
-unfoldable pub managed_body_at : Beginning → Parser MethodKind
-managed_body_at beginning ts = do
+unfoldable pub managed_body_at : HeadKind → Parser MethodKind
+managed_body_at head_kind ts = do
   managed ← word_at (codes "cil") ts
   block ← word_at (codes "managed") managed
-  body_at beginning block
+  body_at head_kind block
 
 -- all words before a method's return type
-unfoldable pub method_words_at : Parser Beginning
+unfoldable pub method_words_at : Parser HeadKind
 method_words_at ts = do
   public ← word_at (codes ".method") ts
   following ← word_at (codes "public") public
@@ -473,9 +473,9 @@ method_words_at ts = do
 
 unfoldable pub method_at : Parser Method
 method_at ts = do
-  beginning ← method_words_at ts
-  signature ← signature_at beginning.0 beginning.1
-  kind ← managed_body_at beginning.0 signature.1
+  head_kind ← method_words_at ts
+  signature ← signature_at head_kind.0 head_kind.1
+  kind ← managed_body_at head_kind.0 signature.1
   Some (record { name = signature.0.0; signature = signature.0.1; kind = kind.0 }, kind.1)
 
 -- ---- members and classes

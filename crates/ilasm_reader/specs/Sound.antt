@@ -26,8 +26,8 @@ use Rattle.ilasm_tokens.specs.declared.words.Form.{Form}
 use Rattle.ilasm_tokens.specs.declared.words.Form.TheVariants as forms
 use Rattle.ilasm_tokens.specs.Steps.{Consumes, choice, with_front, Yields, yields_some, yields_none, yields_bind, yields_choice, yields_if, Sound, SoundOrNone, stays, many_sound}
 use Rattle.ilasm_tokens.specs.Vocabulary.{use_of}
-use Rattle.ilasm_reader.specs.declared.methods.Beginning.{Beginning}
-use Rattle.ilasm_reader.specs.declared.methods.Beginning.TheVariants.{Static, Instance, Virtual, Abstract, Constructor}
+use Rattle.ilasm_reader.specs.declared.methods.HeadKind.{HeadKind}
+use Rattle.ilasm_reader.specs.declared.methods.HeadKind.TheVariants.{Static, Instance, Virtual, Abstract, Constructor}
 use Rattle.ilasm_reader.specs.Parsing.{Parser, word_at, number_of, sign_at, any_word_at, name_at, integer_at, quoted_at, flag_at, before_sign_at, pair_at, starts_comma, after_comma, commas_at, closed_commas_at, parentheses_at, empty_block_at, in_block, assembly_name_at, class_of_assembly_at, class_name_at, element_at, brackets_at, all_brackets_at, type_at, parameter_at, return_type_at, field_of_owner_at, field_reference_at, method_name_at, method_of_owner_at, method_reference_at, instance_method_at, bare, virtual_call, creation, has_32_bits, operands_at, form_of, instruction_at, label_at, starts_label, line_at, some_locals_at, locals_at, max_stack_at, code_start_at, lines_at, code_at, virtual_words_at, constructor_words_at, first_words_at, named_head_at, constructor_head_at, head_at, signature_at, kind_with, code_body_at, body_at, managed_body_at, method_words_at, method_at, field_words_at, field_at, interface_member_at, member_at, block_at, implements_at, interface_words_at, interface_at, class_words_at, base_at, class_body_at, plain_class_at, class_at, named_assembly_at, starts_extern, extern_at, assembly_at, tree_at}
 use Rattle.ilasm_reader.specs.Forms.{operands, instr_from, has_form}
 
@@ -88,15 +88,15 @@ quoted_sound (Quoted found ∷ rest) = yields_some (refl, omega arith)
 quoted_sound (_ ∷ rest) = yields_none
 
 -- what a choice between two gives
-chosen : {A B : Type 0} (Q : B → Type 0) (r : Option A) (f : A → B) (d : B) → ((x : A) → r ≡ Some x → Q (f x)) → Q d → Q (choice r f d)
+choice_law : {A B : Type 0} (Q : B → Type 0) (r : Option A) (f : A → B) (d : B) → ((x : A) → r ≡ Some x → Q (f x)) → Q d → Q (choice r f d)
 unfolding choice
-chosen Q (Some x) f d p q = p x refl
-chosen Q None f d p q = q
+choice_law Q (Some x) f d p q = p x refl
+choice_law Q None f d p q = q
 
 flag_sound : (w : List ℕ) (ts : List Token) → present (flag_at w ts).0 (word w) ts (flag_at w ts).1 × (length (flag_at w ts).1 ≤ length ts)
 unfolding flag_at
 flag_sound w ts =
-    chosen (λ (y : Bool × List Token). present y.0 (word w) ts y.1 × (length y.1 ≤ length ts)) (word_at w ts) (λ rest. (true, rest)) (false, ts)
+    choice_law (λ (y : Bool × List Token). present y.0 (word w) ts y.1 × (length y.1 ≤ length ts)) (word_at w ts) (λ rest. (true, rest)) (false, ts)
     (λ rest e. let p = (word_sound w ts).out rest e in (p.0, omega (arith, p.1)))
     (refl, omega arith)
 
@@ -104,8 +104,8 @@ perhaps : (b : Bool) (R : Span) (ts rest : List Token) → present b R ts rest �
 perhaps true R ts rest p = inl p
 perhaps false R ts rest p = inr p
 
-skipped : (w : List ℕ) (ts : List Token) → maybe (word w) ts (flag_at w ts).1 × (length (flag_at w ts).1 ≤ length ts)
-skipped w ts = let p = flag_sound w ts in (perhaps (flag_at w ts).0 (word w) ts (flag_at w ts).1 p.0, p.1)
+flag_consumes : (w : List ℕ) (ts : List Token) → maybe (word w) ts (flag_at w ts).1 × (length (flag_at w ts).1 ≤ length ts)
+flag_consumes w ts = let p = flag_sound w ts in (perhaps (flag_at w ts).0 (word w) ts (flag_at w ts).1 p.0, p.1)
 
 -- ---- one part after another
 
@@ -288,13 +288,13 @@ operands_sound forms.NewObject ts =
     yields_bind (instance_method_sound ts) (λ a p. yields_bind (creation_from a.0.owner a.0.signature.parameters a.0.name a.0.signature.return_type) (λ i v.
     yields_some ((a.0.owner, a.0.signature.parameters, v.2, (p.0.0, p.0.1, as_constructor a.0 p.0.0 a.1 v.0 v.1 p.0.2)), omega (arith, p.1))))
 
-found : {A : Type 0} (r : Option A) → Yields r (λ x. r ≡ Some x)
-found r = record { out = λ y e. e }
+yields_itself : {A : Type 0} (r : Option A) → Yields r (λ x. r ≡ Some x)
+yields_itself r = record { out = λ y e. e }
 
 instruction_sound : Sound instruction_at instr
 unfolding instruction_at
 instruction_sound ts =
-    yields_bind (any_word_sound ts) (λ a p. yields_bind (found (form_of (use_of a.0))) (λ f e. record {
+    yields_bind (any_word_sound ts) (λ a p. yields_bind (yields_itself (form_of (use_of a.0))) (λ f e. record {
       out = λ y h.
           let q = (operands_sound f a.1).out y h in
           (instr_from f a.0 (has_form a.0 f e) y.0 ts a.1 y.1 p.0 q.0, omega (arith, p.1, q.1));
@@ -352,20 +352,20 @@ code_sound ts =
 
 -- ---- methods
 
--- the words that a beginning represents
-abbrev pub beginning : Beginning → Span
-beginning Static = word (codes "static")
-beginning Instance = word (codes "instance")
-beginning (Virtual is_new_slot) = present is_new_slot (word (codes "newslot")) ▸ word (codes "virtual") ▸ word (codes "instance")
-beginning (Abstract is_new_slot) = present is_new_slot (word (codes "newslot")) ▸ word (codes "abstract") ▸ word (codes "virtual") ▸ word (codes "instance")
-beginning Constructor = word (codes "specialname") ▸ word (codes "rtspecialname") ▸ word (codes "instance")
+-- the words of a kind of method head
+abbrev pub head_kind_words : HeadKind → Span
+head_kind_words Static = word (codes "static")
+head_kind_words Instance = word (codes "instance")
+head_kind_words (Virtual is_new_slot) = present is_new_slot (word (codes "newslot")) ▸ word (codes "virtual") ▸ word (codes "instance")
+head_kind_words (Abstract is_new_slot) = present is_new_slot (word (codes "newslot")) ▸ word (codes "abstract") ▸ word (codes "virtual") ▸ word (codes "instance")
+head_kind_words Constructor = word (codes "specialname") ▸ word (codes "rtspecialname") ▸ word (codes "instance")
 
 virtual_or_abstract : (is_new_slot is_abstract : Bool) (ts a b c d : List Token) → present is_new_slot (word (codes "newslot")) ts a → present is_abstract (word (codes "abstract")) a b → word (codes "virtual") b c → word (codes "instance") c d
-    → beginning (cond is_abstract (Abstract is_new_slot) (Virtual is_new_slot)) ts d
+    → head_kind_words (cond is_abstract (Abstract is_new_slot) (Virtual is_new_slot)) ts d
 virtual_or_abstract n true ts a b c d p q r s = (a, p, (b, q, (c, r, s)))
 virtual_or_abstract n false ts a b c d p q r s = (a, p, (c, q ∙ r, s))
 
-virtual_words_sound : Sound virtual_words_at beginning
+virtual_words_sound : Sound virtual_words_at head_kind_words
 unfolding virtual_words_at
 virtual_words_sound ts =
     let newslot = flag_sound (codes "newslot") ts in
@@ -377,7 +377,7 @@ constructor_words_sound : (ts : List Token) → Yields (constructor_words_at ts)
 unfolding constructor_words_at
 constructor_words_sound ts = yields_bind (word_sound (codes "rtspecialname") ts) (λ a p. record { out = λ y e. let q = (word_sound (codes "instance") a).out y e in ((a, p.0, q.0), omega (arith, p.1, q.1)) })
 
-first_words_sound : Sound first_words_at beginning
+first_words_sound : Sound first_words_at head_kind_words
 unfolding first_words_at
 first_words_sound ts =
     yields_choice (word_sound (codes "static") ts) (λ a p. yields_some (p.0, p.1))
@@ -386,22 +386,22 @@ first_words_sound ts =
     (λ a p. yields_bind (constructor_words_sound a) (λ b q. yields_some ((a, p.0, q.0), omega (arith, p.1, q.1))))
     (virtual_words_sound ts)))
 
--- what may be a method's return type and name after its beginning
-abbrev pub IsHead : Beginning → Option DeclaredType × MethodName → Type 0
+-- what may be a method's return type and name after the words of its head kind
+abbrev pub IsHead : HeadKind → Option DeclaredType × MethodName → Type 0
 IsHead Constructor h = h ≡ (None, ConstructorName)
 IsHead _ h = (n : List ℕ) × (h.1 ≡ Named n)
 
-abbrev head : Beginning → Option DeclaredType × MethodName → Span
+abbrev head : HeadKind → Option DeclaredType × MethodName → Span
 head b h ts rest = IsHead b h × (ret h.0 ▸ method_name h.1) ts rest
 
 named_head_sound : (ts : List Token) → Yields (named_head_at ts) (λ y. ((n : List ℕ) × (y.0.1 ≡ Named n)) × (ret y.0.0 ▸ method_name y.0.1) ts y.1 × (length y.1 < length ts))
 unfolding named_head_at
 named_head_sound ts = yields_bind (return_type_sound ts) (λ a p. yields_bind (name_sound a.1) (λ b q. yields_some ((b.0, refl), (a.1, p.0, q.0), omega (arith, p.1, q.1))))
 
-named_head : (b : Beginning) → ((h : Option DeclaredType × MethodName) → ((n : List ℕ) × (h.1 ≡ Named n)) → IsHead b h) → Sound named_head_at (head b)
+named_head : (b : HeadKind) → ((h : Option DeclaredType × MethodName) → ((n : List ℕ) × (h.1 ≡ Named n)) → IsHead b h) → Sound named_head_at (head b)
 named_head b is ts = record { out = λ y e. let p = (named_head_sound ts).out y e in ((is y.0 p.0, p.1), p.2) }
 
-head_sound : (b : Beginning) → Sound (head_at b) (head b)
+head_sound : (b : HeadKind) → Sound (head_at b) (head b)
 unfolding head_at constructor_head_at
 head_sound Constructor ts = yields_bind (word_sound (codes "void") ts) (λ a p. yields_bind (word_sound (codes ".ctor") a) (λ b q. yields_some ((refl, (a, p.0, q.0)), omega (arith, p.1, q.1))))
 head_sound Static ts = named_head Static (λ h n. n) ts
@@ -412,25 +412,25 @@ head_sound (Abstract is_new_slot) ts = named_head (Abstract is_new_slot) (λ h n
 pub parameters_sound : Sound (parentheses_at parameter_at) (parentheses parameter)
 parameters_sound = parentheses_sound parameter_at parameter parameter_sound
 
--- a name and a signature after a beginning
-abbrev signature_after : Beginning → MethodName × Signature → Span
+-- a name and a signature after the words of a head kind
+abbrev signature_after : HeadKind → MethodName × Signature → Span
 signature_after b x ts rest = IsHead b (x.1.return_type, x.0) × (ret x.1.return_type ▸ method_name x.0 ▸ parentheses parameter x.1.parameters) ts rest
 
-signature_sound : (b : Beginning) → Sound (signature_at b) (signature_after b)
+signature_sound : (b : HeadKind) → Sound (signature_at b) (signature_after b)
 unfolding signature_at
 signature_sound b ts =
     yields_bind (head_sound b ts) (λ a p. yields_bind (parameters_sound a.1) (λ c q.
     yields_some ((p.0.0, (p.0.1.0, p.0.1.1, (a.1, p.0.1.2, q.0))), omega (arith, p.1, q.1))))
 
--- which kinds a beginning may have
-abbrev pub IsKind : Beginning → MethodKind → Type 0
+-- which kinds a method with a head kind may have
+abbrev pub IsKind : HeadKind → MethodKind → Type 0
 IsKind (Abstract is_new_slot) k = k ≡ kinds.Abstract is_new_slot
 IsKind b k = (c : Code) × (k ≡ kind_with b c)
 
-abbrev kind : Beginning → MethodKind → Span
+abbrev kind : HeadKind → MethodKind → Span
 kind b k ts rest = IsKind b k × body k ts rest
 
-body_sound : (b : Beginning) → Sound (body_at b) (kind b)
+body_sound : (b : HeadKind) → Sound (body_at b) (kind b)
 unfolding body_at code_body_at
 body_sound Static ts = yields_bind (code_sound ts) (λ a p. yields_some (((a.0, refl), p.0), p.1))
 body_sound Instance ts = yields_bind (code_sound ts) (λ a p. yields_some (((a.0, refl), p.0), p.1))
@@ -438,7 +438,7 @@ body_sound (Virtual is_new_slot) ts = yields_bind (code_sound ts) (λ a p. yield
 body_sound (Abstract is_new_slot) ts = yields_bind (empty_block_sound ts) (λ a p. yields_some ((refl, p.0), p.1))
 body_sound Constructor ts = yields_bind (code_sound ts) (λ a p. yields_some (((a.0, refl), p.0), p.1))
 
-managed_body_sound : (b : Beginning) → Sound (managed_body_at b) (λ k ts rest. IsKind b k × (word (codes "cil") ▸ word (codes "managed") ▸ body k) ts rest)
+managed_body_sound : (b : HeadKind) → Sound (managed_body_at b) (λ k ts rest. IsKind b k × (word (codes "cil") ▸ word (codes "managed") ▸ body k) ts rest)
 unfolding managed_body_at
 managed_body_sound b ts =
     yields_bind (word_sound (codes "cil") ts) (λ a p. yields_bind (word_sound (codes "managed") a) (λ c q. record {
@@ -446,22 +446,22 @@ managed_body_sound b ts =
     }))
 
 -- the words before a method of this head and kind
-words_from : (b : Beginning) (h : Option DeclaredType × MethodName) (k : MethodKind) (ts rest : List Token) → IsHead b h → IsKind b k → beginning b ts rest → words_before h.1 h.0 k ts rest
+words_from : (b : HeadKind) (h : Option DeclaredType × MethodName) (k : MethodKind) (ts rest : List Token) → IsHead b h → IsKind b k → head_kind_words b ts rest → words_before h.1 h.0 k ts rest
 words_from Static h k ts rest (n, e) (c, f) p = rw (e, f) p
 words_from Instance h k ts rest (n, e) (c, f) p = rw (e, f) p
 words_from (Virtual is_new_slot) h k ts rest (n, e) (c, f) p = rw (e, f) p
 words_from (Abstract is_new_slot) h k ts rest (n, e) f p = rw (e, f) p
 words_from Constructor h k ts rest e (c, f) p = rw (e, f) p
 
-abbrev method_words : Beginning → Span
-method_words b = word (codes ".method") ▸ word (codes "public") ▸ maybe (word (codes "hidebysig")) ▸ beginning b
+abbrev method_words : HeadKind → Span
+method_words b = word (codes ".method") ▸ word (codes "public") ▸ maybe (word (codes "hidebysig")) ▸ head_kind_words b
 
 method_words_sound : Sound method_words_at method_words
 unfolding method_words_at
 method_words_sound ts =
     yields_bind (word_sound (codes ".method") ts) (λ a p. yields_bind (word_sound (codes "public") a) (λ b q. record {
       out = λ y e.
-          let k = skipped (codes "hidebysig") b in
+          let k = flag_consumes (codes "hidebysig") b in
           let r = (first_words_sound (flag_at (codes "hidebysig") b).1).out y e in
           ((a, p.0, (b, q.0, (_, k.0, r.0))), omega (arith, p.1, q.1, k.1, r.1));
     }))

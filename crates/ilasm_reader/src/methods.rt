@@ -18,7 +18,7 @@ use std::alloc::Global;
 
 /// What the words before a method's return type say of it.
 #[derive(Clone, Copy)]
-pub enum Beginning {
+pub enum HeadKind {
     Static,
     Instance,
     Virtual { is_new_slot: bool },
@@ -37,7 +37,7 @@ fn virtual_after(is_new_slot: bool, is_abstract: bool) -> Expected {
 
 /// The words of a virtual method or of an abstract one.
 #[tactic(auto, unfolding(crate::specs::Parsing::virtual_words_at, ilasm_tokens::specs::Steps::bind))]
-fn virtual_words(tokens: &mut Tokens<'_>) -> Result<Beginning, Failure>
+fn virtual_words(tokens: &mut Tokens<'_>) -> Result<HeadKind, Failure>
     ensures { Gives (λ x. (x, tokens.new.now)) result (virtual_words_at tokens.old.now) }
 {
     let is_new_slot = take_word(tokens, b"newslot");
@@ -45,9 +45,9 @@ fn virtual_words(tokens: &mut Tokens<'_>) -> Result<Beginning, Failure>
     expect_word_of(tokens, b"virtual", virtual_after(is_new_slot, is_abstract))?;
     expect_word(tokens, b"instance")?;
     Ok(if is_abstract {
-        Beginning::Abstract { is_new_slot }
+        HeadKind::Abstract { is_new_slot }
     } else {
-        Beginning::Virtual { is_new_slot }
+        HeadKind::Virtual { is_new_slot }
     })
 }
 
@@ -61,25 +61,25 @@ fn constructor_words(tokens: &mut Tokens<'_>) -> Result<(), Failure>
 
 /// The words before a method's return type.
 #[tactic(auto, unfolding(crate::specs::Parsing::first_words_at, ilasm_tokens::specs::Steps::bind, ilasm_tokens::specs::Steps::choice))]
-fn first_words(tokens: &mut Tokens<'_>) -> Result<Beginning, Failure>
+fn first_words(tokens: &mut Tokens<'_>) -> Result<HeadKind, Failure>
     ensures { Gives (λ x. (x, tokens.new.now)) result (first_words_at tokens.old.now) }
 {
     if take_word(tokens, b"static") {
-        return Ok(Beginning::Static);
+        return Ok(HeadKind::Static);
     }
     if take_word(tokens, b"instance") {
-        return Ok(Beginning::Instance);
+        return Ok(HeadKind::Instance);
     }
     if take_word(tokens, b"specialname") {
         constructor_words(tokens)?;
-        return Ok(Beginning::Constructor);
+        return Ok(HeadKind::Constructor);
     }
     virtual_words(tokens)
 }
 
 /// All words before a method's return type. Where no method begins, the grammar has what is given as `expected`.
 #[tactic(auto, unfolding(crate::specs::Parsing::method_words_at, ilasm_tokens::specs::Steps::bind))]
-fn method_words(tokens: &mut Tokens<'_>, expected: Expected) -> Result<Beginning, Failure>
+fn method_words(tokens: &mut Tokens<'_>, expected: Expected) -> Result<HeadKind, Failure>
     ensures { Gives (λ x. (x, tokens.new.now)) result (method_words_at tokens.old.now) }
 {
     expect_word_of(tokens, b".method", expected)?;
@@ -114,13 +114,13 @@ fn named_head(
 #[tactic(auto, unfolding(crate::specs::Parsing::head_at))]
 fn head(
     alloc: Global,
-    beginning: Beginning,
+    head_kind: HeadKind,
     tokens: &mut Tokens<'_>,
 ) -> Result<(Option<DeclaredType>, MethodName), Failure>
-    ensures { Gives (λ x. (x, tokens.new.now)) result (head_at beginning tokens.old.now) }
+    ensures { Gives (λ x. (x, tokens.new.now)) result (head_at head_kind tokens.old.now) }
 {
-    match beginning {
-        Beginning::Constructor => constructor_head(tokens),
+    match head_kind {
+        HeadKind::Constructor => constructor_head(tokens),
         _ => named_head(alloc, tokens),
     }
 }
@@ -129,12 +129,12 @@ fn head(
 #[tactic(auto, unfolding(crate::specs::Parsing::signature_at, ilasm_tokens::specs::Steps::bind))]
 fn signature(
     alloc: Global,
-    beginning: Beginning,
+    head_kind: HeadKind,
     tokens: &mut Tokens<'_>,
 ) -> Result<(MethodName, Signature), Failure>
-    ensures { Gives (λ x. (x, tokens.new.now)) result (signature_at beginning tokens.old.now) }
+    ensures { Gives (λ x. (x, tokens.new.now)) result (signature_at head_kind tokens.old.now) }
 {
-    let (return_type, name) = head(alloc, beginning, tokens)?;
+    let (return_type, name) = head(alloc, head_kind, tokens)?;
     let parameters = parentheses::<Parameter>(alloc, tokens)?;
     let signature = Signature {
         parameters,
@@ -144,12 +144,12 @@ fn signature(
 }
 
 /// The kind of a method that has code.
-fn kind_with(beginning: Beginning, code: Code) -> MethodKind
-    ensures { result ≡ kind_with beginning code }
+fn kind_with(head_kind: HeadKind, code: Code) -> MethodKind
+    ensures { result ≡ kind_with head_kind code }
 {
-    match beginning {
-        Beginning::Static => MethodKind::Static(code),
-        Beginning::Virtual { is_new_slot } => MethodKind::Virtual { is_new_slot, code },
+    match head_kind {
+        HeadKind::Static => MethodKind::Static(code),
+        HeadKind::Virtual { is_new_slot } => MethodKind::Virtual { is_new_slot, code },
         _ => MethodKind::Instance(code),
     }
 }
@@ -158,22 +158,22 @@ fn kind_with(beginning: Beginning, code: Code) -> MethodKind
 #[tactic(auto, unfolding(crate::specs::Parsing::code_body_at, ilasm_tokens::specs::Steps::bind))]
 fn code_body(
     alloc: Global,
-    beginning: Beginning,
+    head_kind: HeadKind,
     tokens: &mut Tokens<'_>,
 ) -> Result<MethodKind, Failure>
-    ensures { Gives (λ x. (x, tokens.new.now)) result (code_body_at beginning tokens.old.now) }
+    ensures { Gives (λ x. (x, tokens.new.now)) result (code_body_at head_kind tokens.old.now) }
 {
     let code = code(alloc, tokens)?;
-    Ok(kind_with(beginning, code))
+    Ok(kind_with(head_kind, code))
 }
 
 /// The kind, with the code that follows here; an abstract method has an empty block.
 #[tactic(auto, unfolding(crate::specs::Parsing::body_at, ilasm_tokens::specs::Steps::bind))]
-fn body(alloc: Global, beginning: Beginning, tokens: &mut Tokens<'_>) -> Result<MethodKind, Failure>
-    ensures { Gives (λ x. (x, tokens.new.now)) result (body_at beginning tokens.old.now) }
+fn body(alloc: Global, head_kind: HeadKind, tokens: &mut Tokens<'_>) -> Result<MethodKind, Failure>
+    ensures { Gives (λ x. (x, tokens.new.now)) result (body_at head_kind tokens.old.now) }
 {
-    let Beginning::Abstract { is_new_slot } = beginning else {
-        return code_body(alloc, beginning, tokens);
+    let HeadKind::Abstract { is_new_slot } = head_kind else {
+        return code_body(alloc, head_kind, tokens);
     };
     empty_block(tokens)?;
     Ok(MethodKind::Abstract { is_new_slot })
@@ -183,14 +183,14 @@ fn body(alloc: Global, beginning: Beginning, tokens: &mut Tokens<'_>) -> Result<
 #[tactic(auto, unfolding(crate::specs::Parsing::managed_body_at, ilasm_tokens::specs::Steps::bind))]
 fn managed_body(
     alloc: Global,
-    beginning: Beginning,
+    head_kind: HeadKind,
     tokens: &mut Tokens<'_>,
 ) -> Result<MethodKind, Failure>
-    ensures { Gives (λ x. (x, tokens.new.now)) result (managed_body_at beginning tokens.old.now) }
+    ensures { Gives (λ x. (x, tokens.new.now)) result (managed_body_at head_kind tokens.old.now) }
 {
     expect_word_of(tokens, b"cil", Expected::CilManaged)?;
     expect_word(tokens, b"managed")?;
-    body(alloc, beginning, tokens)
+    body(alloc, head_kind, tokens)
 }
 
 /// A method. Where none begins, the grammar has what is given as `expected`.
@@ -198,9 +198,9 @@ fn managed_body(
 pub fn method(alloc: Global, tokens: &mut Tokens<'_>, expected: Expected) -> Result<Method, Failure>
     ensures { Gives (λ x. (x, tokens.new.now)) result (method_at tokens.old.now) }
 {
-    let beginning = method_words(tokens, expected)?;
-    let (name, signature) = signature(alloc, beginning, tokens)?;
-    let kind = managed_body(alloc, beginning, tokens)?;
+    let head_kind = method_words(tokens, expected)?;
+    let (name, signature) = signature(alloc, head_kind, tokens)?;
+    let kind = managed_body(alloc, head_kind, tokens)?;
     Ok(Method {
         name,
         signature,

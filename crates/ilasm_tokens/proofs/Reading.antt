@@ -20,7 +20,7 @@ use Rattle.ilasm_tokens.specs.declared.failure.Failure.TheVariants.{Refused, Out
 use Rattle.ilasm_tokens.specs.Steps.{Fails, bind, with_front, many, Yields, yields_some, yields_none, yields_bind, yields_if, bind_at, Sound, many_sound, Consumes}
 use Rattle.ilasm_tokens.specs.Answers.{IsTokenAnswer}
 use Rattle.ilasm_tokens.specs.Vocabulary.{use_of}
-use Rattle.ilasm_tokens.specs.Lexing.{kind_of, run_at, word_token, limit, is_empty, integer_of, integer_token, quoted_from, quoted_token, colon_token, token_by, lexeme_at, spaced_lexeme_at, not_empty, tokens_at}
+use Rattle.ilasm_tokens.specs.Lexing.{kind_of, run_at, word_token, limit, is_empty, integer_of, integer_token, quoted_from, quoted_token, colon_token, token_of_kind, lexeme_at, spaced_lexeme_at, not_empty, tokens_at}
 use Rattle.ilasm_tokens.proofs.Many.{Complete, many_complete}
 use Rattle.ilasm_tokens.proofs.Reserved.{has_use_is_reserved, begins_word, reserved_begins}
 
@@ -220,8 +220,8 @@ kind_means c =
 length_head : (b : ℕ) (bs : List ℕ) → length bs < length (b ∷ bs)
 length_head b bs = omega arith
 
-by_kind : (k : Kind) (b : ℕ) (bs : List ℕ) → Means k b → Yields (token_by k b bs) (λ y. lexeme y.0 (b ∷ bs) y.1 × (length y.1 < length (b ∷ bs)))
-unfolding token_by word_token integer_token quoted_token colon_token
+by_kind : (k : Kind) (b : ℕ) (bs : List ℕ) → Means k b → Yields (token_of_kind k b bs) (λ y. lexeme y.0 (b ∷ bs) y.1 × (length y.1 < length (b ∷ bs)))
+unfolding token_of_kind word_token integer_token quoted_token colon_token
 by_kind Word b bs k =
     yields_bind (run_sound (b ∷ bs)) (λ w p.
     yields_else (is_some (use_of w.0))
@@ -249,7 +249,7 @@ lexeme_sound (b ∷ bs) = by_kind (kind_of b) b bs (kind_means b)
 
 -- ---- what is a token is read
 
-token_from : (k : Kind) (b : ℕ) {bs after : List ℕ} (y : Option (Token × List ℕ)) → kind_of b ≡ k → bs ≡ b ∷ after → token_by k b after ≡ y → lexeme_at bs ≡ y
+token_from : (k : Kind) (b : ℕ) {bs after : List ℕ} (y : Option (Token × List ℕ)) → kind_of b ≡ k → bs ≡ b ∷ after → token_of_kind k b after ≡ y → lexeme_at bs ≡ y
 unfolding lexeme_at
 token_from k b y e p g = rw (p, e) g
 
@@ -271,14 +271,14 @@ segments_begin (c ∷ w) e =
     and_from (not (is_digit c)) (begins_segment c || (c == 46)) (not_from (is_digit c) (letter_no_digit c parts.0)) (or_left (begins_segment c) (c == 46) parts.0)
 
 word_complete : (w : List ℕ) (bs rest : List ℕ) (y : Option (Token × List ℕ)) → run w bs rest → begins_word w ≡ true → word_token bs ≡ y → lexeme_at bs ≡ y
-unfolding token_by
+unfolding token_of_kind
 word_complete [] bs rest y p begins g = absurd cc
 word_complete (b ∷ w) bs rest y p begins g =
     let parts = and_parts (not (is_digit b)) (begins_segment b || (b == 46)) begins in
     token_from Word b y (word_kind b (not-true (is_digit b) parts.0) parts.1) p.0 (rw (← p.0) g)
 
 digits_complete : (ds : List ℕ) (bs rest : List ℕ) (y : Option (Token × List ℕ)) → run ds bs rest → ds ≢ [] → list_all is_digit ds ≡ true → integer_token false bs ≡ y → lexeme_at bs ≡ y
-unfolding token_by
+unfolding token_of_kind
 digits_complete [] bs rest y p some digits g = absurd (some refl)
 digits_complete (b ∷ ds) bs rest y p some digits g =
     token_from Digit b y (digit_kind b (and_parts (is_digit b) (list_all is_digit ds) digits).0) p.0 (rw (← p.0) g)
@@ -288,7 +288,7 @@ unfolding integer_token
 integer_complete m z ds bs rest s d e f p = bind_at _ (run_complete ds p) (bind_at _ (value_complete m ds z s d e f) refl)
 
 symbol_complete : (s : symbols.Symbol) (bs rest : List ℕ) → lexeme (Symbol s) bs rest → lexeme_at bs ≡ Some (Symbol s, rest)
-unfolding lexeme_at kind_of token_by colon_token
+unfolding lexeme_at kind_of token_of_kind colon_token
 symbol_complete OpenBrace bs rest p = rw p.0 refl
 symbol_complete CloseBrace bs rest p = rw p.0 refl
 symbol_complete OpenParenthesis bs rest p = rw p.0 refl
@@ -301,7 +301,7 @@ symbol_complete OneColon bs (c ∷ rest) p = let no : (c == 58) ≡ false = not-
 symbol_complete DoubleColon bs rest p = rw p.0 refl
 
 lexeme_complete : Complete lexeme_at lexeme
-unfolding token_by word_token quoted_token kind_of
+unfolding token_of_kind word_token quoted_token kind_of
 lexeme_complete (Reserved w) bs rest (p, e) =
     let has : is_some (use_of w) ≡ true = has_use_is_reserved w ∙ e in
     word_complete w bs rest _ p (reserved_begins w e) (bind_at _ (run_complete w p) (rw has refl))

@@ -97,18 +97,18 @@ colon_token [] = Some (Symbol OneColon, [])
 colon_token (c ∷ cs) = if c == 58 then Some (Symbol DoubleColon, cs) else Some (Symbol OneColon, c ∷ cs)
 
 -- the token that a byte of this kind begins
-unfoldable pub token_by : Kind → ℕ → Lexer Token
-token_by Word c cs = word_token (c ∷ cs)
-token_by Digit c cs = integer_token false (c ∷ cs)
-token_by Minus c cs = integer_token true cs
-token_by Quote c cs = quoted_token cs
-token_by Colon c cs = colon_token cs
-token_by (Single s) c cs = Some (Symbol s, cs)
-token_by Nothing c cs = None
+unfoldable pub token_of_kind : Kind → ℕ → Lexer Token
+token_of_kind Word c cs = word_token (c ∷ cs)
+token_of_kind Digit c cs = integer_token false (c ∷ cs)
+token_of_kind Minus c cs = integer_token true cs
+token_of_kind Quote c cs = quoted_token cs
+token_of_kind Colon c cs = colon_token cs
+token_of_kind (Single s) c cs = Some (Symbol s, cs)
+token_of_kind Nothing c cs = None
 
 unfoldable pub lexeme_at : Lexer Token
 lexeme_at [] = None
-lexeme_at (c ∷ cs) = token_by (kind_of c) c cs
+lexeme_at (c ∷ cs) = token_of_kind (kind_of c) c cs
 
 unfoldable pub spaced_lexeme_at : Lexer Token
 spaced_lexeme_at bs = do

@@ -241,7 +241,7 @@ fn colon(bytes: &[u8]) -> (SourceToken<'_>, &[u8])
 }
 
 /// The longest token that the bytes begin with, and what is left after it.
-#[tactic(auto, unfolding(crate::specs::Lexing::lexeme_at, crate::specs::Lexing::token_by))]
+#[tactic(auto, unfolding(crate::specs::Lexing::lexeme_at, crate::specs::Lexing::token_of_kind))]
 pub fn lexeme(bytes: &[u8]) -> Result<(SourceToken<'_>, &[u8]), Failure>
     ensures { Gives (λ x. (x.0, x.1.now)) result (lexeme_at bytes.now) }
 {

@@ -2,7 +2,7 @@
 use Rattle.std.proofs.Common.{◌≡◌, ℕ, zero, suc, List, Option, Some, None, option_and_then, refl, sym, ap, subst, ◌∙◌}
 use Rattle.std.proofs.lemmas.Option.{same_Some, none-some}
 use Rattle.inheritance.specs.Lines.{base_in}
-use Rattle.inheritance.specs.Cycles.{along, IsOwnBase, Leads, IsClosed}
+use Rattle.inheritance.specs.Cycles.{along, IsOnBaseCycle, Leads, IsClosed}
 
 module _ (bases : List (Option ℕ)) where
   -- the first base, where there is a further class
@@ -52,7 +52,7 @@ module _ (bases : List (Option ℕ)) where
       by_length (suc k) g = (k, g)
 
   -- and each of these leads back to itself too
-  pub own_further : (c d : ℕ) → IsOwnBase bases c → Leads bases c d → IsOwnBase bases d
+  pub own_further : (c d : ℕ) → IsOnBaseCycle bases c → Leads bases c d → IsOnBaseCycle bases d
   own_further c d own leads =
       let back = leads_back own.0 leads.0 c d own.1 leads.1 in
       let first = first_base back.0 d c back.1 in
@@ -72,7 +72,7 @@ module _ (bases : List (Option ℕ)) where
         by_rest (suc n) x g k more = let next = first_base n x d k in more x (closed c x next.0 h g next.1) k
 
     -- a class that leads back to itself is among them with one that it leads to
-    pub closed_back : (c d : ℕ) → IsOwnBase bases c → Leads bases c d → IsIn d → IsIn c
+    pub closed_back : (c d : ℕ) → IsOnBaseCycle bases c → Leads bases c d → IsIn d → IsIn c
     closed_back c d own leads h =
         let back = leads_back own.0 leads.0 c d own.1 leads.1 in
         let first = first_base own.0 c c own.1 in

@@ -7,7 +7,7 @@ use Rattle.std.proofs.lemmas.Bool.{cases_lt, lt-ltb}
 use Rattle.std.proofs.lemmas.Option.{same_Some, none-some}
 use Rattle.std.specs.List.{position_or_len}
 use Rattle.inheritance.specs.Lines.{base_in}
-use Rattle.inheritance.specs.Cycles.{IsOwnBase, IsLeastOwnBase, Leads, IsClosed, walk_at, IsMarked, MarksOwnBases, HasWalked}
+use Rattle.inheritance.specs.Cycles.{IsOnBaseCycle, IsLeastOnBaseCycle, Leads, IsClosed, walk_at, IsMarked, MarksBaseCycles, HasWalked}
 use Rattle.inheritance.proofs.CycleLaws.{first_base, own_further, closed_back}
 
 -- walks from all classes below a start, and walks around the cycles from the classes that these met again
@@ -19,8 +19,8 @@ pub record HaveWalked (bases walks marks : List (Option ℕ)) (start : ℕ) : Ty
   pub all_walked : (c : ℕ) → c < start → IsMarked walks c
   pub walks_closed : IsClosed bases (IsMarked walks)
   pub marks_closed : IsClosed bases (IsMarked marks)
-  pub own : (c : ℕ) → IsMarked marks c → IsOwnBase bases c
-  pub found : (c : ℕ) → IsMarked walks c → IsOwnBase bases c → IsMarked marks c
+  pub own : (c : ℕ) → IsMarked marks c → IsOnBaseCycle bases c
+  pub found : (c : ℕ) → IsMarked walks c → IsOnBaseCycle bases c → IsMarked marks c
 
 -- n classes of which none is marked
 abbrev none_of : ℕ → List (Option ℕ)
@@ -79,7 +79,7 @@ module _ (bases walks marks : List (Option ℕ)) (start : ℕ) (is : HaveWalked 
   ]
 
   -- what is on a cycle and newly followed leads to the class that was met again
-  met_by : (c : ℕ) → IsMarked walks' c → IsOwnBase bases c → IsMarked marks c ⊎ ((class : ℕ) × (met ≡ Some class) × Leads bases c class)
+  met_by : (c : ℕ) → IsMarked walks' c → IsOnBaseCycle bases c → IsMarked marks c ⊎ ((class : ℕ) × (met ≡ Some class) × Leads bases c class)
   met_by c m own = by_mark (walk_at walks c) refl
     where
       by_mark : (o : Option ℕ) → walk_at walks c ≡ o → IsMarked marks c ⊎ ((class : ℕ) × (met ≡ Some class) × Leads bases c class)
@@ -116,10 +116,10 @@ module _ (bases walks marks : List (Option ℕ)) (start : ℕ) (is : HaveWalked 
         closed : IsClosed bases (IsMarked marks')
         closed = round.closed is.marks_closed
 
-        transitions : IsOwnBase bases class
+        transitions : IsOnBaseCycle bases class
         transitions = walked.own class one
 
-        own : (c : ℕ) → IsMarked marks' c → IsOwnBase bases c
+        own : (c : ℕ) → IsMarked marks' c → IsOnBaseCycle bases c
         own c m = elim (round.later c m.0 m.1) [
           | inl e ↦ is.own c (m.0, e)
           | inr e ↦ own_further bases class c transitions e.1
@@ -130,7 +130,7 @@ module _ (bases walks marks : List (Option ℕ)) (start : ℕ) (is : HaveWalked 
             let first = first_base bases transitions.0 class class transitions.1 in
             round.begun (omega (arith, has_base bases class first.0 first.1, round.width, is.marks_width))
 
-        found : (c : ℕ) → IsMarked walks' c → IsOwnBase bases c → IsMarked marks' c
+        found : (c : ℕ) → IsMarked walks' c → IsOnBaseCycle bases c → IsMarked marks' c
         found c m turning = elim (met_by c m turning) [
           | inl e ↦ stays bases marks class start marks' met' round c e
           | inr h ↦ closed_back bases (IsMarked marks') closed c class turning (subst (Leads bases c) (same_Some h.0 class (sym h.1 ∙ one)) h.2) class_marked
@@ -149,10 +149,10 @@ pub met_some : (classes : List ℕ) (class : ℕ) (marks : List (Option ℕ)) �
 met_some classes class marks e = let wrong : length (classes ++ class ∷ []) ≡ 0 = ap length e in absurd (omega (arith, wrong, length_push classes class))
 
 -- so that there is no cyclic inheritance
-pub none_round : (bases marks : List (Option ℕ)) (classes : List ℕ) → MarksOwnBases bases marks → MetNone classes marks → classes ≡ [] → (class : ℕ) → IsOwnBase bases class → ⊥
+pub none_round : (bases marks : List (Option ℕ)) (classes : List ℕ) → MarksBaseCycles bases marks → MetNone classes marks → classes ≡ [] → (class : ℕ) → IsOnBaseCycle bases class → ⊥
 none_round bases marks classes exact none e class own = none e class ((exact class).1 own)
 
-pub all_marked : (bases walks marks : List (Option ℕ)) → HaveWalked bases walks marks (length bases) → MarksOwnBases bases marks
+pub all_marked : (bases walks marks : List (Option ℕ)) → HaveWalked bases walks marks (length bases) → MarksBaseCycles bases marks
 all_marked bases walks marks is class = (
   is.own class,
   λ own.
@@ -166,7 +166,7 @@ position_none p xs e = elim (cases_lt (position_or_len p xs) (length xs)) [
   | inr g ↦ g
 ]
 
-module _ (bases marks : List (Option ℕ)) (exact : MarksOwnBases bases marks) where
+module _ (bases marks : List (Option ℕ)) (exact : MarksBaseCycles bases marks) where
   marked_is : (class : ℕ) → is_some (walk_at marks class) ≡ true → IsMarked marks class
   marked_is class e = by_mark (walk_at marks class) refl
     where
@@ -174,7 +174,7 @@ module _ (bases marks : List (Option ℕ)) (exact : MarksOwnBases bases marks) w
       by_mark None h = let wrong : false ≡ true = sym (ap is_some h) ∙ e in cc wrong
       by_mark (Some w) h = (w, h)
 
-  not_marked : (class : ℕ) → is_some (walk_at marks class) ≡ false → IsOwnBase bases class → ⊥
+  not_marked : (class : ℕ) → is_some (walk_at marks class) ≡ false → IsOnBaseCycle bases class → ⊥
   not_marked class e own = let m = (exact class).1 own in let wrong : true ≡ false = sym (ap is_some m.1) ∙ e in cc wrong
 
   -- where no index is marked, no class is
@@ -184,12 +184,12 @@ module _ (bases marks : List (Option ℕ)) (exact : MarksOwnBases bases marks) w
     | inr past ↦ ap is_some (get_or_past marks class None past)
   ]
 
-  pub least_marked : (o : Option ℕ) → position is_some marks ≡ o → IsLeastOwnBase bases o
+  pub least_marked : (o : Option ℕ) → position is_some marks ≡ o → IsLeastOnBaseCycle bases o
   least_marked None e = λ class own. not_marked class (none_marked e class) own
   least_marked (Some least) e =
       let found = position-Some is_some marks least None e in
       ((exact least).0 (marked_is least found.1), λ class own. at_least class own (cases_lt class least) found.2)
     where
-      at_least : (class : ℕ) → IsOwnBase bases class → (class < least) ⊎ (least ≤ class) → ((k : ℕ) → k < least → is_some (walk_at marks k) ≡ false) → least ≤ class
+      at_least : (class : ℕ) → IsOnBaseCycle bases class → (class < least) ⊎ (least ≤ class) → ((k : ℕ) → k < least → is_some (walk_at marks k) ≡ false) → least ≤ class
       at_least class own (inl l) before = absurd (not_marked class (before class l) own)
       at_least class own (inr g) before = g

@@ -84,7 +84,7 @@ none_sought test ends reach cs t noted ordered reaches width inside low = by_val
     by_value true e =
         let within : t < length ends = omega (arith, inside, width) in
         let found = covered test ends t within at_first cs noted ordered (omega arith) e in
-        let high : slice_index_or ends found.0 0 ≤ slice_index_or reach t 0 = (reaches t inside).covers found.0 (omega (arith, found.1)) in
+        let high : slice_index_or ends found.0 0 ≤ slice_index_or reach t 0 = (reaches t inside).bounds_ends found.0 (omega (arith, found.1)) in
         absurd (omega (arith, high, low, found.2))
 
 -- ---- what is found until an end
@@ -116,17 +116,17 @@ known_between last t row i d h k ordered early late =
 -- ---- the latest of all ends
 
 pub latest_at_first : (ends : List ℕ) → IsLatest ends 0 0
-latest_at_first ends = record { covers = λ s h. absurd (omega (arith, h)); is_end = λ h. absurd (omega (arith, h)) }
+latest_at_first ends = record { bounds_ends = λ s h. absurd (omega (arith, h)); is_end = λ h. absurd (omega (arith, h)) }
 
 pub latest_as_before : (ends : List ℕ) (n latest : ℕ) → IsLatest ends n latest → slice_index_or ends n 0 ≤ latest → IsLatest ends (n + 1) latest
 latest_as_before ends n latest l h = record {
-  covers = below_more (λ s. slice_index_or ends s 0 ≤ latest) n l.covers h;
+  bounds_ends = below_more (λ s. slice_index_or ends s 0 ≤ latest) n l.bounds_ends h;
   is_end = λ some. let found = l.is_end some in (found.0, omega (arith, found.1), found.2);
 }
 
 pub latest_here : (ends : List ℕ) (n latest : ℕ) → IsLatest ends n latest → latest < slice_index_or ends n 0 → IsLatest ends (n + 1) (slice_index_or ends n 0)
 latest_here ends n latest l h = record {
-  covers = below_more (λ s. slice_index_or ends s 0 ≤ slice_index_or ends n 0) n (λ s k. let low : slice_index_or ends s 0 ≤ latest = l.covers s k in omega (arith, low, h)) (omega arith);
+  bounds_ends = below_more (λ s. slice_index_or ends s 0 ≤ slice_index_or ends n 0) n (λ s k. let low : slice_index_or ends s 0 ≤ latest = l.bounds_ends s k in omega (arith, low, h)) (omega arith);
   is_end = λ some. (n, omega arith, refl);
 }
 

@@ -15,7 +15,7 @@ use Rattle.inheritance.specs.declared.scoped_tables.Entry.{Entry}
 use Rattle.inheritance.specs.Changes.{latest_known, known_of, is_ordered, is_past, changes_of, found_from, AreUpTo, AddsChanges}
 use Rattle.inheritance.specs.Lines.{base_in, line_within, Ends, index_in}
 use Rattle.inheritance.proofs.LineLaws.{line_of_none}
-use Rattle.inheritance.specs.ScopedTables.{pair_of, nearest_from, entry_in, height_of, source_of, IsEntered, HoldsSince, IsRightBefore}
+use Rattle.inheritance.specs.ScopedTables.{pair_of, nearest_from, entry_in, height_of, source_of, IsEntered, HoldsSince, IsCorrectBefore}
 
 pub past_later : (t : ℕ) (cs : List Change) → is_past t cs ≡ true → is_past (t + 1) cs ≡ true
 past_later t [] h = refl
@@ -65,19 +65,19 @@ module _ (forest : Forest) where
   holds_later rows entries t None s = λ key u h k. s key u h (omega (arith, k))
   holds_later rows entries t (Some class) s = (s.0, s.1, λ key u h k. s.2 key u h (omega (arith, k)))
 
-  pub right_later : (t : ℕ) (rows : List (List Change)) (entries : List (Option Entry)) (current : Option ℕ) → IsRightBefore forest t rows entries current → IsRightBefore forest (t + 1) rows entries current
+  pub right_later : (t : ℕ) (rows : List (List Change)) (entries : List (Option Entry)) (current : Option ℕ) → IsCorrectBefore forest t rows entries current → IsCorrectBefore forest (t + 1) rows entries current
   right_later t rows entries current r = record {
     width = r.width;
     up_to = up_to_later t rows r.up_to;
     earlier = λ class entry e. let h : entry.time < t = r.earlier class entry e in omega (arith, h);
-    entered = r.entered;
-    based = r.based;
+    entries_are_entered = r.entries_are_entered;
+    base_is_entered = r.base_is_entered;
     holds_since = holds_later rows entries t current r.holds_since;
   }
 
   -- ---- where the keys of a class find another declaration
 
-  module _ (t : ℕ) (rows new : List (List Change)) (entries : List (Option Entry)) (current : Option ℕ) (r : IsRightBefore forest t rows entries current)
+  module _ (t : ℕ) (rows new : List (List Change)) (entries : List (Option Entry)) (current : Option ℕ) (r : IsCorrectBefore forest t rows entries current)
       (class : ℕ) (source : Source) (a : AddsChanges rows new (slice_index_or (map (λ v. v.items) forest.declared.items) class []) 0 source t) where
     before : (key u : ℕ) → key < forest.keys → u < t → known_of new key u ≡ known_of rows key u
     before key u h k =
@@ -91,8 +91,8 @@ module _ (forest : Forest) where
 
     entered_still : (n : ℕ) (entry : Entry) → entry_in entries n ≡ Some entry → IsEntered forest new n entry
     entered_still n entry e =
-        let was : IsEntered forest rows n entry = r.entered n entry e in
-        record { short = was.short; ended = was.ended; right = λ key m h k. ap pair_of (before key entry.time h (r.earlier n entry e)) ∙ was.right key m h k }
+        let was : IsEntered forest rows n entry = r.entries_are_entered n entry e in
+        record { length_is_bounded = was.length_is_bounded; ended = was.ended; lookup_is_correct = λ key m h k. ap pair_of (before key entry.time h (r.earlier n entry e)) ∙ was.lookup_is_correct key m h k }
 
     -- what is found at the time, before the class's keys are
     found_holds : (now : Option ℕ) → HoldsSince forest rows entries t now → (height : ℕ) → height_of entries now ≡ Some height → (key m u : ℕ) → key < forest.keys → height ≤ m → t ≤ u →
@@ -100,14 +100,14 @@ module _ (forest : Forest) where
     found_holds None s height e key m u h k l = ap pair_of (s key u h l) ∙ sym (nearest_nowhere key m)
     found_holds (Some n) s height e key m u h k l =
         let same : s.0.length ≡ height = same_Some s.0.length height (sym (ap (option_map (λ (x : Entry). x.length)) s.1) ∙ e) in
-        ap pair_of (s.2 key u h l) ∙ (r.entered n s.0 s.1).right key m h (omega (arith, same, k))
+        ap pair_of (s.2 key u h l) ∙ (r.entries_are_entered n s.0 s.1).lookup_is_correct key m h (omega (arith, same, k))
 
     -- where the current class's bases end, no more classes are found
     line_holds : (now : Option ℕ) → HoldsSince forest rows entries t now → (height m : ℕ) → height_of entries now ≡ Some height → height ≤ m → line_within bases m now ≡ line_within bases height now
     line_holds None s height m e k = line_of_none bases m ∙ sym (line_of_none bases height)
     line_holds (Some n) s height m e k =
         let same : s.0.length ≡ height = same_Some s.0.length height (sym (ap (option_map (λ (x : Entry). x.length)) s.1) ∙ e) in
-        (r.entered n s.0 s.1).ended m (omega (arith, same, k)) ∙ ap (λ h. line_within bases h (Some n)) same
+        (r.entries_are_entered n s.0 s.1).ended m (omega (arith, same, k)) ∙ ap (λ h. line_within bases h (Some n)) same
 
     steady : (now : Option ℕ) → HoldsSince forest rows entries t now → (key u w : ℕ) → key < forest.keys → t ≤ u → t ≤ w → known_of rows key u ≡ known_of rows key w
     steady None s key u w h k l = s key u h k ∙ sym (s key w h l)
@@ -115,7 +115,7 @@ module _ (forest : Forest) where
 
   -- ---- a class is entered
 
-  module _ (t : ℕ) (rows new : List (List Change)) (entries : List (Option Entry)) (current : Option ℕ) (r : IsRightBefore forest t rows entries current)
+  module _ (t : ℕ) (rows new : List (List Change)) (entries : List (Option Entry)) (current : Option ℕ) (r : IsCorrectBefore forest t rows entries current)
       (class height : ℕ) (a : AddsChanges rows new (slice_index_or (map (λ v. v.items) forest.declared.items) class []) 0 (Class class) t)
       (inside : class < length entries) (base : base_in bases class ≡ current) (high : height_of entries current ≡ Some height) (low : height < forest.most) where
     abbrev made : Entry
@@ -149,7 +149,7 @@ module _ (forest : Forest) where
         ap (λ ns. class ∷ ns) further ∙ sym (ap (λ h. line_within bases h (Some class)) one)
 
     made_entered : IsEntered forest new class made
-    made_entered = record { short = omega (arith, low); ended = made_ended; right = made_right }
+    made_entered = record { length_is_bounded = omega (arith, low); ended = made_ended; lookup_is_correct = made_right }
 
     entered_after : (n : ℕ) (entry : Entry) → ((n == class) ≡ true) × (n ≡ class) ⊎ ((n == class) ≡ false) × (n ≢ class) → entry_in after n ≡ Some entry → IsEntered forest new n entry
     entered_after n entry (inl h) e =
@@ -176,7 +176,7 @@ module _ (forest : Forest) where
     based_after : (n b : ℕ) (entry : Entry) → ((n == class) ≡ true) × (n ≡ class) ⊎ ((n == class) ≡ false) × (n ≢ class) → entry_in after n ≡ Some entry → base_in bases n ≡ Some b → (other : Entry) × (entry_in after b ≡ Some other)
     based_after n b entry (inl h) e k = of_current b current (sym base ∙ ap (base_in bases) (sym h.1) ∙ k) r.holds_since
     based_after n b entry (inr h) e k =
-        let found : (other : Entry) × (entry_in entries b ≡ Some other) = r.based n b entry (sym (after_other n h.1) ∙ e) k in
+        let found : (other : Entry) × (entry_in entries b ≡ Some other) = r.base_is_entered n b entry (sym (after_other n h.1) ∙ e) k in
         still b found.0 found.1 (eqb_tells b class)
 
     holds_after : (key u : ℕ) → key < forest.keys → t + 1 ≤ u → known_of new key u ≡ known_of new key t
@@ -185,19 +185,19 @@ module _ (forest : Forest) where
         ap (option_map_or (found_from rows (Class class) key) (index key class)) (steady t rows new entries current r class (Class class) a current r.holds_since key u t h (omega (arith, k)) (omega arith)) ∙
         sym (following t rows new entries current r class (Class class) a key t h (omega arith))
 
-    pub right_entered : IsRightBefore forest (t + 1) new after (Some class)
+    pub right_entered : IsCorrectBefore forest (t + 1) new after (Some class)
     right_entered = record {
       width = a.width ∙ r.width;
       up_to = up_to_later t new (a.up_to r.up_to);
       earlier = λ n entry e. earlier_after n entry (eqb_tells n class) e;
-      entered = λ n entry e. entered_after n entry (eqb_tells n class) e;
-      based = λ n b entry e k. based_after n b entry (eqb_tells n class) e k;
+      entries_are_entered = λ n entry e. entered_after n entry (eqb_tells n class) e;
+      base_is_entered = λ n b entry e k. based_after n b entry (eqb_tells n class) e k;
       holds_since = (made, after_same, holds_after);
     }
 
   -- ---- the search goes back
 
-  module _ (t : ℕ) (rows new : List (List Change)) (entries : List (Option Entry)) (class : ℕ) (r : IsRightBefore forest t rows entries (Some class))
+  module _ (t : ℕ) (rows new : List (List Change)) (entries : List (Option Entry)) (class : ℕ) (r : IsCorrectBefore forest t rows entries (Some class))
       (a : AddsChanges rows new (slice_index_or (map (λ v. v.items) forest.declared.items) class []) 0 (source_of entries (base_in bases class)) t) where
     abbrev own : Entry
     own = r.holds_since.0
@@ -205,7 +205,7 @@ module _ (forest : Forest) where
     -- a key that the class does not declare finds what its base finds
     inherited : (key m u : ℕ) → key < forest.keys → own.length ≤ m → t ≤ u → index key class ≡ None → pair_of (known_of rows key u) ≡ nearest_from forest key m (base_in bases class)
     inherited key m u h k l absent =
-        ap pair_of (r.holds_since.2 key u h l) ∙ (r.entered class own r.holds_since.1).right key (suc m) h (omega (arith, k)) ∙
+        ap pair_of (r.holds_since.2 key u h l) ∙ (r.entries_are_entered class own r.holds_since.1).lookup_is_correct key (suc m) h (omega (arith, k)) ∙
         ap (λ o. option_map_or (λ p. Some (class, p)) o (nearest_from forest key m (base_in bases class))) absent
 
     holds_left : (base : Option ℕ) → base_in bases class ≡ base → HoldsSince forest new entries (t + 1) base
@@ -224,7 +224,7 @@ module _ (forest : Forest) where
     holds_left (Some b) e = (other.0, other.1, λ key u h k. by_index key u h k (index key class) refl)
       where
         other : (x : Entry) × (entry_in entries b ≡ Some x)
-        other = r.based class b own r.holds_since.1 e
+        other = r.base_is_entered class b own r.holds_since.1 e
 
         from : source_of entries (base_in bases class) ≡ Time other.0.time
         from = ap (source_of entries) e ∙ ap (λ o. option_map_or (λ (x : Entry). Time x.time) o Nothing) other.1
@@ -234,7 +234,7 @@ module _ (forest : Forest) where
         by_kind key u h k None q =
             let m = own.length + other.0.length in
             same_pairs (known_of rows key u) (known_of rows key other.0.time) (
-            inherited key m u h (omega arith) (omega (arith, k)) q ∙ ap (nearest_from forest key m) e ∙ sym ((r.entered b other.0 other.1).right key m h (omega arith)))
+            inherited key m u h (omega arith) (omega (arith, k)) q ∙ ap (nearest_from forest key m) e ∙ sym ((r.entries_are_entered b other.0 other.1).lookup_is_correct key m h (omega arith)))
 
         by_index : (key u : ℕ) → key < forest.keys → t + 1 ≤ u → (o : Option ℕ) → index key class ≡ o → known_of new key u ≡ known_of new key other.0.time
         by_index key u h k o p =
@@ -243,20 +243,20 @@ module _ (forest : Forest) where
             by_kind key u h k (index key class) refl ∙
             sym (before t rows new entries (Some class) r class _ a key other.0.time h (r.earlier b other.0 other.1))
 
-    pub right_left : IsRightBefore forest (t + 1) new entries (base_in bases class)
+    pub right_left : IsCorrectBefore forest (t + 1) new entries (base_in bases class)
     right_left = record {
       width = a.width ∙ r.width;
       up_to = up_to_later t new (a.up_to r.up_to);
       earlier = λ n entry e. let was : entry.time < t = r.earlier n entry e in omega (arith, was);
-      entered = entered_still t rows new entries (Some class) r class _ a;
-      based = r.based;
+      entries_are_entered = entered_still t rows new entries (Some class) r class _ a;
+      base_is_entered = r.base_is_entered;
       holds_since = holds_left (base_in bases class) refl;
     }
 
 -- the bases of a class that was entered end
 pub entered_ends : (forest : Forest) (rows : List (List Change)) (class : ℕ) (entry : Entry) → IsEntered forest rows class entry → Ends forest.bases.items forest.most class
 entered_ends forest rows class entry e =
-    let more : entry.length ≤ suc forest.most = omega (arith, e.short) in e.ended (suc forest.most) more ∙ sym (e.ended forest.most e.short)
+    let more : entry.length ≤ suc forest.most = omega (arith, e.length_is_bounded) in e.ended (suc forest.most) more ∙ sym (e.ended forest.most e.length_is_bounded)
 
 -- ---- at the start
 
@@ -270,12 +270,12 @@ entries_empty zero class = refl
 entries_empty (suc n) zero = refl
 entries_empty (suc n) (suc class) = entries_empty n class
 
-pub right_at_start : (forest : Forest) (n : ℕ) → IsRightBefore forest 0 (replicate forest.keys []) (replicate n None) None
+pub right_at_start : (forest : Forest) (n : ℕ) → IsCorrectBefore forest 0 (replicate forest.keys []) (replicate n None) None
 right_at_start forest n = record {
   width = length-replicate forest.keys [];
   up_to = record { ordered = λ key. ap is_ordered (rows_empty forest.keys key); past = λ key. ap (is_past 0) (rows_empty forest.keys key) };
   earlier = λ class entry e. absurd (none-some entry (sym (entries_empty n class) ∙ e));
-  entered = λ class entry e. absurd (none-some entry (sym (entries_empty n class) ∙ e));
-  based = λ class base entry e k. absurd (none-some entry (sym (entries_empty n class) ∙ e));
+  entries_are_entered = λ class entry e. absurd (none-some entry (sym (entries_empty n class) ∙ e));
+  base_is_entered = λ class base entry e k. absurd (none-some entry (sym (entries_empty n class) ∙ e));
   holds_since = λ key t h k. ap (latest_known None t) (rows_empty forest.keys key);
 }

@@ -97,8 +97,8 @@ module _ (bases : List (Option ℕ)) (met listed : List Bool) (classes : List �
 
   each_once : (class : ℕ) → times classes class + times path class ≤ 1
   each_once class = elim (cases_lt 0 (times path class)) [
-    | inl l ↦ (let once = has.once class in omega (arith, once, not_listed class l))
-    | inr none ↦ (let once = is.order.once class in omega (arith, once, none))
+    | inl l ↦ (let occurs_once = has.occurs_once class in omega (arith, occurs_once, not_listed class l))
+    | inr none ↦ (let occurs_once = is.order.occurs_once class in omega (arith, occurs_once, none))
   ]
 
   module _ (listed' : List Bool) (more : MarksMore listed path listed') (reported : is_listed_next listed next ≡ true) where
@@ -110,7 +110,7 @@ module _ (bases : List (Option ℕ)) (met listed : List Bool) (classes : List �
       met_width = width;
       listed_width = more.width ∙ is.listed_width;
       order = order;
-      is_listed = λ class e. elim (more.newly class e) [
+      is_listed = λ class e. elim (more.met_now class e) [
         | inl h ↦ (let l = is.is_listed class h in omega (arith, l, times_both classes path class))
         | inr h ↦ omega (arith, h, times_both classes path class)
       ];
@@ -118,7 +118,7 @@ module _ (bases : List (Option ℕ)) (met listed : List Bool) (classes : List �
         | inl on ↦ more.of_path class on (omega (arith, (has.of_path class on).0, width, more.width, is.listed_width))
         | inr none ↦ more.kept class (is.marked class (omega (arith, l, none, times_both classes path class)))
       ];
-      walked = λ class e. elim (more.newly class e) [
+      walked = λ class e. elim (more.met_now class e) [
         | inl h ↦ has.kept class (is.walked class h)
         | inr h ↦ (has.of_path class h).2
       ];
@@ -134,7 +134,7 @@ module _ (bases : List (Option ℕ)) (met listed : List Bool) (classes : List �
         ]
 
         was_met : (class : ℕ) → IsCyclic met' listed' class → is_met met class ≡ true
-        was_met class e = elim (has.newly class e.0) [
+        was_met class e = elim (has.met_now class e.0) [
           | inl h ↦ h
           | inr on ↦ absurd (not_both (is_met listed' class) (more.of_path class on (omega (arith, (has.of_path class on).0, width, more.width, is.listed_width))) e.1)
         ]
@@ -142,7 +142,7 @@ module _ (bases : List (Option ℕ)) (met listed : List Bool) (classes : List �
         -- what was met and not listed is not listed now
         still_not : (class : ℕ) → IsCyclic met listed class → is_met listed' class ≡ false
         still_not class e = elim (either (is_met listed' class)) [
-          | inl h ↦ elim (more.newly class h) [
+          | inl h ↦ elim (more.met_now class h) [
             | inl g ↦ absurd (not_both (is_met listed class) g e.1)
             | inr on ↦ absurd (not_both (is_met met class) e.0 (has.of_path class on).1)
           ]
@@ -176,7 +176,7 @@ module _ (bases : List (Option ℕ)) (met listed : List Bool) (classes : List �
       ]
 
       cyclic : (class : ℕ) → IsCyclic met' listed class → HasCyclicBase bases met' listed class
-      cyclic class e = elim (has.newly class e.0) [
+      cyclic class e = elim (has.met_now class e.0) [
         | inl h ↦ (let base = is.cyclic class (h, e.1) in (base.0, base.1, (has.kept base.0 base.2.0, base.2.1)))
         | inr on ↦ on_path class on
       ]
@@ -186,8 +186,8 @@ module _ (bases : List (Option ℕ)) (met listed : List Bool) (classes : List �
 pub all_listed : (bases : List (Option ℕ)) (met listed : List Bool) (classes : List ℕ) → HaveListed bases met listed classes (length bases) → AreTopologicallyOrdered bases classes
 all_listed bases met listed classes is = record {
   following = is.order.following;
-  once = λ class most within ends. elim (either (is_met listed class)) [
-    | inl e ↦ (let once = is.order.once class in omega (arith, once, is.is_listed class e))
+  occurs_once = λ class most within ends. elim (either (is_met listed class)) [
+    | inl e ↦ (let occurs_once = is.order.occurs_once class in omega (arith, occurs_once, is.is_listed class e))
     | inr e ↦ absurd (kind_never_ends bases (IsCyclic met listed) is.cyclic most class (is.all_met class within, e) ends)
   ];
   others = λ class. elim (cases_lt 0 (times classes class)) [

@@ -83,7 +83,7 @@ take_before xs y index e = ap (λ n. take n (xs ++ y ∷ [])) e ∙ take-append_
 -- each of these classes occurs once, after its base, and its bases end
 pub record IsOrder (bases : List (Option ℕ)) (classes : List ℕ) : Type 0 where
   pub following : (index class base : ℕ) → slice_get classes index ≡ Some class → base_in bases class ≡ Some base → base < length bases → 0 < times (take index classes) base
-  pub once : (class : ℕ) → times classes class ≤ 1
+  pub occurs_once : (class : ℕ) → times classes class ≤ 1
   pub ends : (class : ℕ) → 0 < times classes class → (class < length bases) × ((most : ℕ) × Ends bases most class)
 
 -- what comes next is listed, where it is a class
@@ -94,7 +94,7 @@ module _ (bases : List (Option ℕ)) where
   pub none_listed : IsOrder bases []
   none_listed = record {
     following = λ index class base e f l. absurd (none-some class e);
-    once = λ class. omega arith;
+    occurs_once = λ class. omega arith;
     ends = λ class l. absurd (omega (arith, l));
   }
 
@@ -113,9 +113,9 @@ module _ (bases : List (Option ℕ)) where
         | inl h ↦ subst (λ xs. 0 < times xs base) (sym (take-append-le index classes (class ∷ []) (omega (arith, h.0)))) (is.following index c base h.1 f l)
         | inr h ↦ subst (λ xs. 0 < times xs base) (sym (take_before classes class index h.0)) (next base (ap (base_in bases) (sym h.1) ∙ f) l)
       ];
-      once = λ c. elim (one_cases class c) [
+      occurs_once = λ c. elim (one_cases class c) [
         | inl e ↦ (let none = ap (times classes) (sym e.0) ∙ new in omega (arith, none, e.1, times_push classes class c))
-        | inr e ↦ (let once = is.once c in omega (arith, once, e.1, times_push classes class c))
+        | inr e ↦ (let occurs_once = is.occurs_once c in omega (arith, occurs_once, e.1, times_push classes class c))
       ];
       ends = λ c l. elim (one_cases class c) [
         | inl e ↦ subst (λ d. (d < length bases) × ((most : ℕ) × Ends bases most d)) e.0 (
@@ -129,11 +129,11 @@ module _ (bases : List (Option ℕ)) where
   -- a path is listed, the last class first
   module _ (classes : List ℕ) (is : IsOrder bases classes) (next : Option ℕ) (listed : IsListedNext bases classes next) where
     pub list_path : (first : Option ℕ) (path : List ℕ) → IsPath bases first path next → ((class : ℕ) → times classes class + times path class ≤ 1) → ((class : ℕ) → 0 < times path class → class < length bases) → IsOrder bases (classes ++ reverse path) × IsListedNext bases (classes ++ reverse path) first
-    list_path first [] on once within = (subst (IsOrder bases) (sym (append-nil classes)) is, λ class e l. subst (λ xs. 0 < times xs class) (sym (append-nil classes)) (listed class (sym on ∙ e) l))
-    list_path first (x ∷ path) on once within =
-        let rest = list_path (base_in bases x) path on.1 (λ class. let o = once class in omega (arith, o, times_first x path class)) (λ class l. within class (omega (arith, l, times_first x path class))) in
+    list_path first [] on occurs_once within = (subst (IsOrder bases) (sym (append-nil classes)) is, λ class e l. subst (λ xs. 0 < times xs class) (sym (append-nil classes)) (listed class (sym on ∙ e) l))
+    list_path first (x ∷ path) on occurs_once within =
+        let rest = list_path (base_in bases x) path on.1 (λ class. let o = occurs_once class in omega (arith, o, times_first x path class)) (λ class l. within class (omega (arith, l, times_first x path class))) in
         let whole : classes ++ reverse (x ∷ path) ≡ (classes ++ reverse path) ++ x ∷ [] = ap (λ l. classes ++ l) (back x path) ∙ sym (append_assoc classes (reverse path) (x ∷ [])) in
-        let new : times (classes ++ reverse path) x ≡ 0 = let o = once x in omega (arith, o, times_first x path x, one_here x, times_both classes path x) in (
+        let new : times (classes ++ reverse path) x ≡ 0 = let o = occurs_once x in omega (arith, o, times_first x path x, one_here x, times_both classes path x) in (
           subst (IsOrder bases) (sym whole) (list_one (classes ++ reverse path) rest.0 x (within x (omega (arith, times_first x path x, one_here x))) new rest.1),
           λ class e l. omega (arith, times_both classes (x ∷ path) class, times_first x path class, ap (one_at x) (same_Some x class (sym on.0 ∙ e)), one_here x),
         )
@@ -177,10 +177,10 @@ pub nothing_met : (bases : List (Option ℕ)) (old : List Bool) (first : ℕ) �
 nothing_met bases old first = record {
   width = refl;
   on_path = refl;
-  once = λ class. omega arith;
+  occurs_once = λ class. omega arith;
   of_path = λ class l. absurd (omega (arith, l));
   kept = λ class e. e;
-  newly = λ class e. inl e;
+  met_now = λ class e. inl e;
 }
 
 module _ (bases : List (Option ℕ)) (old : List Bool) (first : ℕ) (met : List Bool) (path : List ℕ) (next : Option ℕ) (is : HasMet bases old first met path next) (class : ℕ) (is_end : next ≡ Some class) (within : class < length met) (new : is_met met class ≡ false) where
@@ -198,17 +198,17 @@ module _ (bases : List (Option ℕ)) (old : List Bool) (first : ℕ) (met : List
   one_more_met = record {
     width = length-set met class true ∙ is.width;
     on_path = path_on bases (Some first) path class (subst (IsPath bases (Some first) path) is_end is.on_path);
-    once = λ c. elim (one_cases class c) [
+    occurs_once = λ c. elim (one_cases class c) [
       | inl e ↦ (let none = ap (times path) (sym e.0) ∙ not_on_path in omega (arith, none, e.1, times_push path class c))
-      | inr e ↦ (let once = is.once c in omega (arith, once, e.1, times_push path class c))
+      | inr e ↦ (let occurs_once = is.occurs_once c in omega (arith, occurs_once, e.1, times_push path class c))
     ];
     of_path = λ c l. elim (one_cases class c) [
       | inl e ↦ subst (λ c. (c < length (slice_set met class true)) × (is_met old c ≡ false) × (is_met (slice_set met class true) c ≡ true)) e.0 (omega (arith, within, length-set met class true), was_new (is_met old class) refl, marked_here met class within)
       | inr e ↦ (let h = is.of_path c (omega (arith, l, e.1, times_push path class c)) in (omega (arith, h.0, length-set met class true), h.1, still_marked met class within c h.2))
     ];
     kept = λ c e. still_marked met class within c (is.kept c e);
-    newly = λ c e. elim (marked_now met class within c e) [
-      | inl h ↦ elim (is.newly c h) [ inl g ↦ inl g | inr g ↦ inr (omega (arith, g, times_push path class c)) ]
+    met_now = λ c e. elim (marked_now met class within c e) [
+      | inl h ↦ elim (is.met_now c h) [ inl g ↦ inl g | inr g ↦ inr (omega (arith, g, times_push path class c)) ]
       | inr h ↦ inr (omega (arith, ap (one_at class) h, one_here class, times_push path class c))
     ];
   }
@@ -221,7 +221,7 @@ pub record IsListing (old : List Bool) (whole before : List ℕ) (listed : List 
   pub all : classes ++ reverse path ≡ before ++ reverse whole
   pub left : (class : ℕ) → times path class ≤ times whole class
   pub kept : (class : ℕ) → is_met old class ≡ true → is_met listed class ≡ true
-  pub newly : (class : ℕ) → is_met listed class ≡ true → (is_met old class ≡ true) ⊎ (0 < times whole class)
+  pub met_now : (class : ℕ) → is_met listed class ≡ true → (is_met old class ≡ true) ⊎ (0 < times whole class)
   pub of_path : (class : ℕ) → 0 < times whole class → class < length listed → (is_met listed class ≡ true) ⊎ (0 < times path class)
 
 module _ (old : List Bool) (whole before : List ℕ) (listed : List Bool) (path classes : List ℕ) (class : ℕ) (is : IsListing old whole before listed (path ++ class ∷ []) classes) where
@@ -240,8 +240,8 @@ module _ (old : List Bool) (whole before : List ℕ) (listed : List Bool) (path 
     all = all_more;
     left = left_more;
     kept = λ c e. still_marked listed class within c (is.kept c e);
-    newly = λ c e. elim (marked_now listed class within c e) [
-      | inl h ↦ is.newly c h
+    met_now = λ c e. elim (marked_now listed class within c e) [
+      | inl h ↦ is.met_now c h
       | inr h ↦ inr (let l = is.left c in omega (arith, l, ap (one_at class) h, one_here class, times_push path class c))
     ];
     of_path = λ c l in_list. elim (one_cases class c) [
@@ -259,7 +259,7 @@ module _ (old : List Bool) (whole before : List ℕ) (listed : List Bool) (path 
     all = all_more;
     left = left_more;
     kept = is.kept;
-    newly = is.newly;
+    met_now = is.met_now;
     of_path = λ c l in_list. elim (one_cases class c) [
       | inl e ↦ absurd (omega (arith, e.0, in_list, past))
       | inr e ↦ elim (is.of_path c l in_list) [

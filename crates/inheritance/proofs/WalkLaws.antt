@@ -4,7 +4,7 @@ use Rattle.std.proofs.lemmas.Bool.Decides.{eqb_tells}
 use Rattle.std.proofs.lemmas.List.{get_or-set_same, get_or-set_other, length-set}
 use Rattle.std.proofs.lemmas.Option.{same_Some, none-some}
 use Rattle.inheritance.specs.Lines.{base_in}
-use Rattle.inheritance.specs.Cycles.{along, IsOwnBase, Leads, IsClosed, walk_at, IsMarked, HasWalked}
+use Rattle.inheritance.specs.Cycles.{along, IsOnBaseCycle, Leads, IsClosed, walk_at, IsMarked, HasWalked}
 use Rattle.inheritance.proofs.CycleLaws.{first_base, from_base, leads_on, leads_back, closed_back}
 
 pub none_of : (o : Option ℕ) (b : Bool) → is_some o ≡ not b → b ≡ true → o ≡ None
@@ -35,8 +35,8 @@ IsNew bases old first walk class c w = ((w ≡ walk) × Leads bases first c) × 
 pub record IsWalking (bases old : List (Option ℕ)) (first walk : ℕ) (marks : List (Option ℕ)) (class : ℕ) : Type 0 where
   pub width : length marks ≡ length old
   pub kept : (c w : ℕ) → walk_at old c ≡ Some w → walk_at marks c ≡ Some w
-  pub newly : (c w : ℕ) → walk_at marks c ≡ Some w → (walk_at old c ≡ Some w) ⊎ IsNew bases old first walk class c w
-  pub based : (c d : ℕ) → IsMarked marks c → walk_at old c ≡ None → base_in bases c ≡ Some d → IsMarked marks d ⊎ (d ≡ class)
+  pub met_now : (c w : ℕ) → walk_at marks c ≡ Some w → (walk_at old c ≡ Some w) ⊎ IsNew bases old first walk class c w
+  pub base_is_entered : (c d : ℕ) → IsMarked marks c → walk_at old c ≡ None → base_in bases c ≡ Some d → IsMarked marks d ⊎ (d ≡ class)
   pub begun : (first ≡ class) ⊎ IsMarked marks first
   pub led : Leads bases first class
 
@@ -79,8 +79,8 @@ module _ (bases old : List (Option ℕ)) (first walk : ℕ) (marks : List (Optio
   walk_on next base = record {
     width = length-set marks class (Some walk) ∙ is.width;
     kept = λ c w h. stays c w (is.kept c w h);
-    newly = newly;
-    based = based;
+    met_now = met_now;
+    base_is_entered = base_is_entered;
     begun = inr begun;
     led = (suc is.led.0, leads_on bases is.led.0 first class next is.led.1 base);
   }
@@ -89,22 +89,22 @@ module _ (bases old : List (Option ℕ)) (first walk : ℕ) (marks : List (Optio
       further c w (inl h) = inl h
       further c w (inr n) = inr (n.0, n.1, (suc n.2.0, leads_on bases (suc n.2.0) c class next n.2.1 base))
 
-      newly : (c w : ℕ) → walk_at marks' c ≡ Some w → (walk_at old c ≡ Some w) ⊎ IsNew bases old first walk next c w
-      newly c w h = by_before (before c w h)
+      met_now : (c w : ℕ) → walk_at marks' c ≡ Some w → (walk_at old c ≡ Some w) ⊎ IsNew bases old first walk next c w
+      met_now c w h = by_before (before c w h)
         where
           by_before : (walk_at marks c ≡ Some w) ⊎ ((c ≡ class) × (w ≡ walk)) → (walk_at old c ≡ Some w) ⊎ IsNew bases old first walk next c w
-          by_before (inl e) = further c w (is.newly c w e)
+          by_before (inl e) = further c w (is.met_now c w e)
           by_before (inr e) = inr ((e.1, led_to c e.0), ap (walk_at old) e.0 ∙ was_none, (zero, from_base bases zero c next next (ap (base_in bases) e.0 ∙ base) refl))
 
-      based : (c d : ℕ) → IsMarked marks' c → walk_at old c ≡ None → base_in bases c ≡ Some d → IsMarked marks' d ⊎ (d ≡ next)
-      based c d marked new f = by_before (before c marked.0 marked.1)
+      base_is_entered : (c d : ℕ) → IsMarked marks' c → walk_at old c ≡ None → base_in bases c ≡ Some d → IsMarked marks' d ⊎ (d ≡ next)
+      base_is_entered c d marked new f = by_before (before c marked.0 marked.1)
         where
           by_base : IsMarked marks d ⊎ (d ≡ class) → IsMarked marks' d ⊎ (d ≡ next)
           by_base (inl m) = inl (m.0, stays d m.0 m.1)
           by_base (inr e) = inl (walk, ap (walk_at marks') e ∙ here)
 
           by_before : (walk_at marks c ≡ Some marked.0) ⊎ ((c ≡ class) × (marked.0 ≡ walk)) → IsMarked marks' d ⊎ (d ≡ next)
-          by_before (inl e) = by_base (is.based c d (marked.0, e) new f)
+          by_before (inl e) = by_base (is.base_is_entered c d (marked.0, e) new f)
           by_before (inr e) = inr (same_Some d next (sym f ∙ ap (base_in bases) e.0 ∙ base))
 
   -- where the class has no base, the walk ends, and has met no class that is among its own base classes
@@ -127,7 +127,7 @@ module _ (bases old : List (Option ℕ)) (first walk : ℕ) (marks : List (Optio
       by_new c w (inr n) = inr n.0
 
       by_before : (c w : ℕ) → (walk_at marks c ≡ Some w) ⊎ ((c ≡ class) × (w ≡ walk)) → (walk_at old c ≡ Some w) ⊎ ((w ≡ walk) × Leads bases first c)
-      by_before c w (inl e) = by_new c w (is.newly c w e)
+      by_before c w (inl e) = by_new c w (is.met_now c w e)
       by_before c w (inr e) = inr (e.1, led_to c e.0)
 
       closed : IsClosed bases (IsMarked old) → IsClosed bases (IsMarked marks')
@@ -142,15 +142,15 @@ module _ (bases old : List (Option ℕ)) (first walk : ℕ) (marks : List (Optio
 
           by_walk : IsMarked marks c → (walk_at old c ≡ Some marked.0) ⊎ IsNew bases old first walk class c marked.0 → IsMarked marks' d
           by_walk m (inl h) = let o = shut c d b (marked.0, h) base further in still (o.0, is.kept d o.0 o.1)
-          by_walk m (inr n) = by_base (is.based c d m n.1 base)
+          by_walk m (inr n) = by_base (is.base_is_entered c d m n.1 base)
 
           by_mark : (walk_at marks c ≡ Some marked.0) ⊎ ((c ≡ class) × (marked.0 ≡ walk)) → IsMarked marks' d
-          by_mark (inl e) = by_walk (marked.0, e) (is.newly c marked.0 e)
+          by_mark (inl e) = by_walk (marked.0, e) (is.met_now c marked.0 e)
           by_mark (inr e) = absurd (has_no_base c d e.0 base)
 
-      covered : (c w : ℕ) → walk_at old c ≡ None → IsOwnBase bases c → (walk_at marks c ≡ Some w) ⊎ ((c ≡ class) × (w ≡ walk)) → ⊥
+      covered : (c w : ℕ) → walk_at old c ≡ None → IsOnBaseCycle bases c → (walk_at marks c ≡ Some w) ⊎ ((c ≡ class) × (w ≡ walk)) → ⊥
       covered c w new own (inr e) = let first = first_base bases own.0 c c own.1 in has_no_base c first.0 e.0 first.1
-      covered c w new own (inl e) = by_walk (is.newly c w e)
+      covered c w new own (inl e) = by_walk (is.met_now c w e)
         where
           by_walk : (walk_at old c ≡ Some w) ⊎ IsNew bases old first walk class c w → ⊥
           by_walk (inl h) = none-some w (sym new ∙ h)
@@ -164,7 +164,7 @@ module _ (bases old : List (Option ℕ)) (first walk : ℕ) (marks : List (Optio
 module _ (bases old : List (Option ℕ)) (first walk : ℕ) (marks : List (Option ℕ)) (class : ℕ) (is : IsWalking bases old first walk marks class) where
   -- what is marked is closed, where the class at the end is marked or has no base
   closed_at_end : ((b : ℕ) → base_in bases class ≡ Some b → IsMarked marks class) → IsClosed bases (IsMarked old) → IsClosed bases (IsMarked marks)
-  closed_at_end end closed c d b marked base further = by_mark (is.newly c marked.0 marked.1)
+  closed_at_end end closed c d b marked base further = by_mark (is.met_now c marked.0 marked.1)
     where
       by_base : IsMarked marks d ⊎ (d ≡ class) → IsMarked marks d
       by_base (inl m) = m
@@ -172,10 +172,10 @@ module _ (bases old : List (Option ℕ)) (first walk : ℕ) (marks : List (Optio
 
       by_mark : (walk_at old c ≡ Some marked.0) ⊎ IsNew bases old first walk class c marked.0 → IsMarked marks d
       by_mark (inl h) = let m = closed c d b (marked.0, h) base further in (m.0, is.kept d m.0 m.1)
-      by_mark (inr n) = by_base (is.based c d marked n.1 base)
+      by_mark (inr n) = by_base (is.base_is_entered c d marked n.1 base)
 
   later : (c w : ℕ) → walk_at marks c ≡ Some w → (walk_at old c ≡ Some w) ⊎ ((w ≡ walk) × Leads bases first c)
-  later c w h = by_mark (is.newly c w h)
+  later c w h = by_mark (is.met_now c w h)
     where
       by_mark : (walk_at old c ≡ Some w) ⊎ IsNew bases old first walk class c w → (walk_at old c ≡ Some w) ⊎ ((w ≡ walk) × Leads bases first c)
       by_mark (inl e) = inl e
@@ -183,7 +183,7 @@ module _ (bases old : List (Option ℕ)) (first walk : ℕ) (marks : List (Optio
 
   -- a class that was first reached in this walk leads on to the last one
   leads_to_end : (c : ℕ) → IsMarked marks c → walk_at old c ≡ None → LeadsOn bases c class
-  leads_to_end c marked none = by_mark (is.newly c marked.0 marked.1)
+  leads_to_end c marked none = by_mark (is.met_now c marked.0 marked.1)
     where
       by_mark : (walk_at old c ≡ Some marked.0) ⊎ IsNew bases old first walk class c marked.0 → LeadsOn bases c class
       by_mark (inl h) = absurd (none-some marked.0 (sym none ∙ h))
@@ -216,7 +216,7 @@ module _ (bases old : List (Option ℕ)) (first walk : ℕ) (marks : List (Optio
     later = later;
     begun = λ l. begun_at_end marked;
     closed = closed_at_end (λ b f. marked);
-    own = λ c h. subst (IsOwnBase bases) (same_Some class c h) (leads_to_end class marked none);
+    own = λ c h. subst (IsOnBaseCycle bases) (same_Some class c h) (leads_to_end class marked none);
     covered = λ closed c m new own. let on = leads_to_end c m new in (class, refl, (suc on.0, on.1));
   }
 

@@ -8,13 +8,13 @@ along bases zero class = Some class
 along bases (suc n) class = option_and_then (along bases n) (base_in bases class)
 
 -- bases lead back to the class
-abbrev pub IsOwnBase : List (Option ℕ) → ℕ → Type 0
-IsOwnBase bases class = (n : ℕ) × (along bases (suc n) class ≡ Some class)
+abbrev pub IsOnBaseCycle : List (Option ℕ) → ℕ → Type 0
+IsOnBaseCycle bases class = (n : ℕ) × (along bases (suc n) class ≡ Some class)
 
 -- the least such class; none where there is none
-abbrev pub IsLeastOwnBase : List (Option ℕ) → Option ℕ → Type 0
-IsLeastOwnBase bases None = (class : ℕ) → IsOwnBase bases class → ⊥
-IsLeastOwnBase bases (Some least) = IsOwnBase bases least × ((class : ℕ) → IsOwnBase bases class → least ≤ class)
+abbrev pub IsLeastOnBaseCycle : List (Option ℕ) → Option ℕ → Type 0
+IsLeastOnBaseCycle bases None = (class : ℕ) → IsOnBaseCycle bases class → ⊥
+IsLeastOnBaseCycle bases (Some least) = IsOnBaseCycle bases least × ((class : ℕ) → IsOnBaseCycle bases class → least ≤ class)
 
 -- a class, its base, and so on, lead to another
 abbrev pub Leads : List (Option ℕ) → ℕ → ℕ → Type 0
@@ -32,8 +32,8 @@ abbrev pub IsMarked : List (Option ℕ) → ℕ → Type 0
 IsMarked marks class = (walk : ℕ) × (walk_at marks class ≡ Some walk)
 
 -- exactly the classes that bases lead back to are marked
-abbrev pub MarksOwnBases : List (Option ℕ) → List (Option ℕ) → Type 0
-MarksOwnBases bases marks = (class : ℕ) → IsMarked marks class ↔ IsOwnBase bases class
+abbrev pub MarksBaseCycles : List (Option ℕ) → List (Option ℕ) → Type 0
+MarksBaseCycles bases marks = (class : ℕ) → IsMarked marks class ↔ IsOnBaseCycle bases class
 
 -- what a walk from a class on leaves: all that it marks is reached from that class, a class that it meets again is among its own base classes, and all
 -- classes that are among their own base classes and were first reached in this walk lead to it
@@ -43,5 +43,5 @@ pub record HasWalked (bases old : List (Option ℕ)) (first walk : ℕ) (marks :
   pub later : (c w : ℕ) → walk_at marks c ≡ Some w → (walk_at old c ≡ Some w) ⊎ ((w ≡ walk) × Leads bases first c)
   pub begun : first < length marks → IsMarked marks first
   pub closed : IsClosed bases (IsMarked old) → IsClosed bases (IsMarked marks)
-  pub own : (class : ℕ) → met ≡ Some class → IsOwnBase bases class
-  pub covered : IsClosed bases (IsMarked old) → (c : ℕ) → IsMarked marks c → walk_at old c ≡ None → IsOwnBase bases c → (class : ℕ) × (met ≡ Some class) × Leads bases c class
+  pub own : (class : ℕ) → met ≡ Some class → IsOnBaseCycle bases class
+  pub covered : IsClosed bases (IsMarked old) → (c : ℕ) → IsMarked marks c → walk_at old c ≡ None → IsOnBaseCycle bases c → (class : ℕ) × (met ≡ Some class) × Leads bases c class

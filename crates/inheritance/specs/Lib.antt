@@ -1,7 +1,7 @@
 pub mod Changes
 pub mod Lines
 pub mod ScopedTables
-pub mod Marked
+pub mod MarkedDeclarations
 pub mod Query
 pub mod CutCycles
 pub mod Cycles

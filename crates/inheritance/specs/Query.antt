@@ -7,7 +7,7 @@ use Rattle.inheritance.specs.declared.query.Query.{Query}
 use Rattle.inheritance.specs.declared.query.Query.TheVariants.{Marked, Absent}
 use Rattle.inheritance.specs.Changes.{known_of}
 use Rattle.inheritance.specs.ScopedTables.{pair_of, nearest_from}
-use Rattle.inheritance.specs.Marked.{is_marked}
+use Rattle.inheritance.specs.MarkedDeclarations.{is_marked}
 
 -- whether what is found, a class and an index or nothing, is what is sought
 abbrev pub is_match : Query → Option (ℕ × ℕ) → Bool
@@ -47,7 +47,7 @@ HoldsTill P old new = (s t : ℕ) → s ≤ t → slice_index_or old s 0 ≤ t �
 
 -- the latest of the given number of ends, the first ones; 0 where none is later
 pub record IsLatest (ends : List ℕ) (count latest : ℕ) : Type 0 where
-  pub covers : (s : ℕ) → s < count → slice_index_or ends s 0 ≤ latest
+  pub bounds_ends : (s : ℕ) → s < count → slice_index_or ends s 0 ≤ latest
   pub is_end : 0 < latest → (s : ℕ) × (s < count) × (slice_index_or ends s 0 ≡ latest)
 
 -- the latest of all ends up to each time

@@ -25,9 +25,9 @@ entry_in entries class = slice_index_or entries class None
 
 -- at its time, each key finds the nearest class with it
 pub record IsEntered (forest : Forest) (rows : List (List Change)) (class : ℕ) (entry : Entry) : Type 0 where
-  pub short : entry.length ≤ forest.most
+  pub length_is_bounded : entry.length ≤ forest.most
   pub ended : (n : ℕ) → entry.length ≤ n → line_within forest.bases.items n (Some class) ≡ line_within forest.bases.items entry.length (Some class)
-  pub right : (key n : ℕ) → key < forest.keys → entry.length ≤ n → pair_of (known_of rows key entry.time) ≡ nearest_from forest key n (Some class)
+  pub lookup_is_correct : (key n : ℕ) → key < forest.keys → entry.length ≤ n → pair_of (known_of rows key entry.time) ≡ nearest_from forest key n (Some class)
 
 -- from a time on each key finds what it found as the current class was entered, and nothing where there is none
 abbrev pub HoldsSince : Forest → List (List Change) → List (Option Entry) → ℕ → Option ℕ → Type 0
@@ -36,23 +36,23 @@ HoldsSince forest rows entries time (Some class) =
     (entry : Entry) × (entry_in entries class ≡ Some entry) × ((key t : ℕ) → key < forest.keys → time ≤ t → known_of rows key t ≡ known_of rows key entry.time)
 
 -- what is written before a time is right
-pub record IsRightBefore (forest : Forest) (time : ℕ) (rows : List (List Change)) (entries : List (Option Entry)) (current : Option ℕ) : Type 0 where
+pub record IsCorrectBefore (forest : Forest) (time : ℕ) (rows : List (List Change)) (entries : List (Option Entry)) (current : Option ℕ) : Type 0 where
   pub width : length rows ≡ forest.keys
   pub up_to : AreUpTo time rows
   pub earlier : (class : ℕ) (entry : Entry) → entry_in entries class ≡ Some entry → entry.time < time
-  pub entered : (class : ℕ) (entry : Entry) → entry_in entries class ≡ Some entry → IsEntered forest rows class entry
-  pub based : (class base : ℕ) (entry : Entry) → entry_in entries class ≡ Some entry → base_in forest.bases.items class ≡ Some base → (other : Entry) × (entry_in entries base ≡ Some other)
+  pub entries_are_entered : (class : ℕ) (entry : Entry) → entry_in entries class ≡ Some entry → IsEntered forest rows class entry
+  pub base_is_entered : (class base : ℕ) (entry : Entry) → entry_in entries class ≡ Some entry → base_in forest.bases.items class ≡ Some base → (other : Entry) × (entry_in entries base ≡ Some other)
   pub holds_since : HoldsSince forest rows entries time current
 
-abbrev pub IsRight : Forest → ℕ → ScopedTable → Type 0
-IsRight forest time scoped_table = IsRightBefore forest time (map (λ v. v.items) scoped_table.changes.items) scoped_table.entries.items scoped_table.current
+abbrev pub IsCorrect : Forest → ℕ → ScopedTable → Type 0
+IsCorrect forest time scoped_table = IsCorrectBefore forest time (map (λ v. v.items) scoped_table.changes.items) scoped_table.entries.items scoped_table.current
 
 -- each key finds the nearest class with it, from each class that was entered, whose bases end
 pub record IsDone (forest : Forest) (scoped_table : ScopedTable) : Type 0 where
   pub width : length scoped_table.changes.items ≡ forest.keys
   pub ordered : AreOrdered (map (λ v. v.items) scoped_table.changes.items)
   pub ended : (class : ℕ) (entry : Entry) → entry_in scoped_table.entries.items class ≡ Some entry → Ends forest.bases.items forest.most class
-  pub right : (class : ℕ) (entry : Entry) → entry_in scoped_table.entries.items class ≡ Some entry → (key : ℕ) → key < forest.keys → pair_of (known_of (map (λ v. v.items) scoped_table.changes.items) key entry.time) ≡ nearest_from forest key forest.most (Some class)
+  pub lookup_is_correct : (class : ℕ) (entry : Entry) → entry_in scoped_table.entries.items class ≡ Some entry → (key : ℕ) → key < forest.keys → pair_of (known_of (map (λ v. v.items) scoped_table.changes.items) key entry.time) ≡ nearest_from forest key forest.most (Some class)
 
 -- how many classes there are from a class on
 abbrev pub height_of : List (Option Entry) → Option ℕ → Option ℕ

@@ -11,7 +11,7 @@ times classes class = count_by (λ c. c == class) classes
 -- the classes whose bases end, each once, and after its base where that is a class
 pub record AreTopologicallyOrdered (bases : List (Option ℕ)) (classes : List ℕ) : Type 0 where
   pub following : (index class base : ℕ) → slice_get classes index ≡ Some class → base_in bases class ≡ Some base → base < length bases → 0 < times (take index classes) base
-  pub once : (class most : ℕ) → class < length bases → Ends bases most class → times classes class ≡ 1
+  pub occurs_once : (class most : ℕ) → class < length bases → Ends bases most class → times classes class ≡ 1
   pub others : (class : ℕ) → (times classes class ≡ 0) ⊎ ((class < length bases) × ((most : ℕ) × Ends bases most class))
 
 -- a class, its base, and so on, with what comes after the last of them
@@ -26,10 +26,10 @@ is_met met class = slice_index_or met class false
 pub record HasMet (bases : List (Option ℕ)) (old : List Bool) (first : ℕ) (met : List Bool) (path : List ℕ) (next : Option ℕ) : Type 0 where
   pub width : length met ≡ length old
   pub on_path : IsPath bases (Some first) path next
-  pub once : (class : ℕ) → times path class ≤ 1
+  pub occurs_once : (class : ℕ) → times path class ≤ 1
   pub of_path : (class : ℕ) → 0 < times path class → (class < length met) × (is_met old class ≡ false) × (is_met met class ≡ true)
   pub kept : (class : ℕ) → is_met old class ≡ true → is_met met class ≡ true
-  pub newly : (class : ℕ) → is_met met class ≡ true → (is_met old class ≡ true) ⊎ (0 < times path class)
+  pub met_now : (class : ℕ) → is_met met class ≡ true → (is_met old class ≡ true) ⊎ (0 < times path class)
 
 -- what comes next is met, where it is a class
 abbrev pub IsMetNext : List Bool → Option ℕ → Type 0
@@ -43,5 +43,5 @@ is_listed_next listed next = option_map_or (λ class. slice_index_or listed clas
 pub record MarksMore (old : List Bool) (path : List ℕ) (listed : List Bool) : Type 0 where
   pub width : length listed ≡ length old
   pub kept : (class : ℕ) → is_met old class ≡ true → is_met listed class ≡ true
-  pub newly : (class : ℕ) → is_met listed class ≡ true → (is_met old class ≡ true) ⊎ (0 < times path class)
+  pub met_now : (class : ℕ) → is_met listed class ≡ true → (is_met old class ≡ true) ⊎ (0 < times path class)
   pub of_path : (class : ℕ) → 0 < times path class → class < length listed → is_met listed class ≡ true

@@ -5,7 +5,7 @@ ghost use Rattle.std.specs.Option.{ForSome};
 ghost use Rattle.inheritance.specs.declared.changes.Declared.{Declared};
 ghost use Rattle.inheritance.specs.ScopedTables.{pair_of, nearest_from};
 ghost use Rattle.inheritance.specs.CutCycles.{part_in, IsCut};
-ghost use Rattle.inheritance.specs.Cycles.{IsOwnBase};
+ghost use Rattle.inheritance.specs.Cycles.{IsOnBaseCycle};
 
 use crate::changes::Declared;
 use crate::cut_cycles::{CutCycles, Part, cut_forest, part_in, parts_of};
@@ -20,7 +20,7 @@ impl CutCycles {
     /// declarations, but for logarithms. The only error is out of memory.
     pub fn new(alloc: Global, forest: &Forest) -> Result<Option<Self>, NoMemory>
         ensures cut { IfOk result (λ found. ForSome found (λ cycles. IsCut forest.now cycles.cut.forest)) }
-        ensures none { IfOk result (λ found. found ≡ None → (class : ℕ) → IsOwnBase forest.now.bases.items class → ⊥) }
+        ensures none { IfOk result (λ found. found ≡ None → (class : ℕ) → IsOnBaseCycle forest.now.bases.items class → ⊥) }
     {
         let cycles = Cycles::new(alloc, forest.bases.as_slice())?;
         let classes = cycles.classes.as_slice();

@@ -3,7 +3,7 @@
 ghost use Rattle.std.specs.Prelude.{◌≡◌, ℕ, [], Some, IfOk, is_some, length};
 ghost use Rattle.std.specs.List.{position};
 ghost use Rattle.inheritance.specs.Lines.{base_in};
-ghost use Rattle.inheritance.specs.Cycles.{walk_at, HasWalked, IsOwnBase, IsLeastOwnBase, MarksOwnBases};
+ghost use Rattle.inheritance.specs.Cycles.{walk_at, HasWalked, IsOnBaseCycle, IsLeastOnBaseCycle, MarksBaseCycles};
 
 use cil_model::memory::NoMemory;
 use std::alloc::Global;
@@ -54,8 +54,8 @@ impl Cycles {
     /// Follows all bases: a class at which a walk meets itself is on a cycle, which is then followed once more and marked. Takes
     /// time with the number of classes. The only error is out of memory.
     pub(crate) fn new(alloc: Global, bases: &[Option<usize>]) -> Result<Self, NoMemory>
-        ensures marks { IfOk result (λ cycles. MarksOwnBases bases.now cycles.marks.items) }
-        ensures classes { IfOk result (λ cycles. cycles.classes.items ≡ [] → (class : ℕ) → IsOwnBase bases.now class → ⊥) }
+        ensures marks { IfOk result (λ cycles. MarksBaseCycles bases.now cycles.marks.items) }
+        ensures classes { IfOk result (λ cycles. cycles.classes.items ≡ [] → (class : ℕ) → IsOnBaseCycle bases.now class → ⊥) }
     {
         let mut classes = Vec::new(alloc);
         let mut marks = vec![in alloc; None; bases.len()]?;
@@ -80,7 +80,7 @@ fn first_marked(marks: &[Option<usize>]) -> Option<usize>
 /// The least class that bases lead back to; none where there is none. Takes time with the number of classes. The only error is out of
 /// memory.
 pub fn least_own_base(alloc: Global, bases: &[Option<usize>]) -> Result<Option<usize>, NoMemory>
-    ensures { IfOk result (λ least. IsLeastOwnBase bases.now least) }
+    ensures { IfOk result (λ least. IsLeastOnBaseCycle bases.now least) }
 {
     let cycles = Cycles::new(alloc, bases)?;
     Ok(first_marked(cycles.marks.as_slice()))

@@ -4,7 +4,7 @@ ghost use Rattle.std.specs.Prelude.{◌≡◌, ◌==◌, ◌<◌, ◌↔◌, ℕ
 ghost use Rattle.inheritance.specs.declared.scoped_tables.Entry.{Entry};
 ghost use Rattle.inheritance.specs.Lines.{Ends};
 ghost use Rattle.inheritance.specs.Changes.{known_of, AreOrdered};
-ghost use Rattle.inheritance.specs.ScopedTables.{pair_of, nearest_from, entry_in, IsRight, IsDone, IsLeftOut};
+ghost use Rattle.inheritance.specs.ScopedTables.{pair_of, nearest_from, entry_in, IsCorrect, IsDone, IsLeftOut};
 
 use crate::changes::{Declared, found_at};
 use crate::forests::Forest;
@@ -28,7 +28,7 @@ pub struct Inheritance {
     ghost ordered: { AreOrdered (map (λ v. v.items) scoped_table.changes.items) },
     ghost ended: { (class : ℕ) (entry : Entry) → entry_in scoped_table.entries.items class ≡ Some entry → Ends forest.bases.items forest.most class },
     ghost cyclic: { IsTrue is_complete → (class : ℕ) → IsLeftOut forest.bases.items scoped_table.entries.items class → ¬ Ends forest.bases.items forest.most class },
-    ghost right: { (class : ℕ) (entry : Entry) → entry_in scoped_table.entries.items class ≡ Some entry → (key : ℕ) → key < forest.keys → pair_of (known_of (map (λ v. v.items) scoped_table.changes.items) key entry.time) ≡ nearest_from forest key forest.most (Some class) },
+    ghost lookup_is_correct: { (class : ℕ) (entry : Entry) → entry_in scoped_table.entries.items class ≡ Some entry → (key : ℕ) → key < forest.keys → pair_of (known_of (map (λ v. v.items) scoped_table.changes.items) key entry.time) ≡ nearest_from forest key forest.most (Some class) },
 }
 
 /// Each part is dropped.

@@ -5,7 +5,7 @@ ghost use Rattle.std.specs.List.{list_all, list_any};
 ghost use Rattle.inheritance.specs.Lines.{Ends};
 ghost use Rattle.inheritance.specs.Changes.{changes_of, is_ordered, latest_known, AreOrdered};
 ghost use Rattle.inheritance.specs.ScopedTables.{pair_of, nearest_from};
-ghost use Rattle.inheritance.specs.Marked.{is_marked, FindsMarked};
+ghost use Rattle.inheritance.specs.MarkedDeclarations.{is_marked, FindsMarked};
 ghost use Rattle.inheritance.specs.Query.{is_match, finds_some, finds_at, at_first, below, AreNoted, AreLater, HoldsTill, IsReach, IsReachOf};
 
 use crate::changes::{Change, Declared, changes_of};

@@ -34,11 +34,11 @@ fn empty_rows(alloc: Global, keys: usize) -> Result<Vec<Vec<Change>>, NoMemory>
 }
 
 impl ScopedTable {
-    ghost use Rattle.inheritance.specs.ScopedTables.{entry_in, IsRight, height_of, source_of};
+    ghost use Rattle.inheritance.specs.ScopedTables.{entry_in, IsCorrect, height_of, source_of};
 
     /// Nothing is entered yet. The only error is out of memory.
     pub fn new(alloc: Global, forest: &Forest) -> Result<Self, NoMemory>
-        ensures { IfOk result (λ scoped_table. IsRight forest.now 0 scoped_table) }
+        ensures { IfOk result (λ scoped_table. IsCorrect forest.now 0 scoped_table) }
     {
         Ok(ScopedTable {
             changes: empty_rows(alloc, forest.keys)?,
@@ -86,8 +86,8 @@ impl ScopedTable {
     /// Goes to a class from its base. A class with another base, or with too many classes after it, is left alone. The only error is
     /// out of memory.
     fn enter(&mut self, forest: &Forest, class: usize, time: usize) -> Result<(), NoMemory>
-        requires { IsRight forest.now time self.old }
-        ensures { OnOk result (IsRight forest.now (time + 1) self.new) }
+        requires { IsCorrect forest.now time self.old }
+        ensures { OnOk result (IsCorrect forest.now (time + 1) self.new) }
     {
         if class >= self.entries.len() || forest.base(class) != self.current {
             return Ok(());
@@ -113,8 +113,8 @@ impl ScopedTable {
 
     /// Goes back to the base of the current class. The only error is out of memory.
     fn leave(&mut self, forest: &Forest, time: usize) -> Result<(), NoMemory>
-        requires { IsRight forest.now time self.old }
-        ensures { OnOk result (IsRight forest.now (time + 1) self.new) }
+        requires { IsCorrect forest.now time self.old }
+        ensures { OnOk result (IsCorrect forest.now (time + 1) self.new) }
     {
         let Some(class) = self.current else {
             return Ok(());
@@ -128,8 +128,8 @@ impl ScopedTable {
 
     /// Makes a step. The only error is out of memory.
     pub fn step(&mut self, forest: &Forest, step: Step, time: usize) -> Result<(), NoMemory>
-        requires { IsRight forest.now time self.old }
-        ensures { OnOk result (IsRight forest.now (time + 1) self.new) }
+        requires { IsCorrect forest.now time self.old }
+        ensures { OnOk result (IsCorrect forest.now (time + 1) self.new) }
     {
         match step {
             Step::Enter(class) => self.enter(forest, class, time),

@@ -17,7 +17,7 @@ use Rattle.object_memory.specs.declared.addresses.Addr.{Addr}
 use Rattle.object_memory.specs.declared.values.Value.TheVariants.{Ref}
 use Rattle.object_memory.specs.Objects.{Objects}
 use Rattle.instructions.specs.TypeTransitions.{type_of_address, may_be_used_as}
-use Rattle.flow_rules.specs.Named.{class_named, element_named, is_known}
+use Rattle.flow_rules.specs.StackTypes.{class_named, element_named, is_known}
 use Rattle.cil_model.proofs.Lists.{none_is_some}
 
 module _ (tree : Tree) where

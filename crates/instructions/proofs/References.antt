@@ -16,7 +16,7 @@ use Rattle.threads_monitors.specs.Monitors.{with_entry, with_exit}
 use Rattle.threads_monitors.specs.declared.effects.Effect.{Effect}
 use Rattle.threads_monitors.specs.declared.effects.Effect.TheVariants.{Continues, Returns, Blocks, Raises}
 use Rattle.threads_monitors.specs.declared.mutators.Mutator.{Mutator}
-use Rattle.instructions.specs.BuiltInTransitions.{carry, enter_transition, exit_transition, is_countable, reference_from}
+use Rattle.instructions.specs.BuiltInTransitions.{pop_if_continues, enter_transition, exit_transition, is_countable, reference_from}
 use Rattle.instructions.specs.Frames.{branch_reference, branch_test, comparison, same_reference}
 use Rattle.instructions.specs.ObjectTransitions.{ObjectTransition}
 
@@ -49,7 +49,7 @@ module _ (phase : Phase) (o : Objects) (a b : Addr) where
 -- ---- exits
 
 -- where the thread doesn't continue its operand stays
-carried_stays : (m n : Frames) (x : Objects × Effect) → (x.1 ≡ Continues → ⊥) → carry m n x ≡ Some (m, x.0, x.1)
+carried_stays : (m n : Frames) (x : Objects × Effect) → (x.1 ≡ Continues → ⊥) → pop_if_continues m n x ≡ Some (m, x.0, x.1)
 carried_stays m n (o, Continues) other = absurd (other refl)
 carried_stays m n (o, Returns) other = refl
 carried_stays m n (o, Blocks) other = refl
@@ -58,13 +58,13 @@ carried_stays m n (o, Raises f) other = refl
 -- a rule of an entry or an exit, by which references it admits, and what it makes of the objects
 module _ (admits : Addr → Bool) (change : Addr → Objects × Effect) (m : Frames) where
   abbrev transition_by : List Value → ObjectTransition
-  transition_by stack = reference_from stack m (λ a n. if admits a then carry m n (change a) else None)
+  transition_by stack = reference_from stack m (λ a n. if admits a then pop_if_continues m n (change a) else None)
 
   pub stays : (a : Addr) (x : Objects × Effect) → slice_get m.running.stack 0 ≡ Some (Ref a) → IsSome (transition_by m.running.stack) → x ≡ change a → (x.1 ≡ Continues → ⊥) → transition_by m.running.stack ≡ Some (m, x.0, x.1)
   stays a x top there is other = by_stack m.running.stack top there
     where
-      by_test : (t : Bool) (rest : List Value) → IsSome (if t then carry m (with_stack m rest) (change a) else None) → (if t then carry m (with_stack m rest) (change a) else None) ≡ Some (m, x.0, x.1)
-      by_test true rest h = ap (carry m (with_stack m rest)) (sym is) ∙ carried_stays m (with_stack m rest) x other
+      by_test : (t : Bool) (rest : List Value) → IsSome (if t then pop_if_continues m (with_stack m rest) (change a) else None) → (if t then pop_if_continues m (with_stack m rest) (change a) else None) ≡ Some (m, x.0, x.1)
+      by_test true rest h = ap (pop_if_continues m (with_stack m rest)) (sym is) ∙ carried_stays m (with_stack m rest) x other
       by_test false rest h = absurd cc
 
       by_stack : (stack : List Value) → slice_get stack 0 ≡ Some (Ref a) → IsSome (transition_by stack) → transition_by stack ≡ Some (m, x.0, x.1)

@@ -16,7 +16,7 @@ use Rattle.threads_monitors.specs.declared.effects.Effect.TheVariants.{Continues
 use Rattle.threads_monitors.specs.declared.mutators.Mutator.{Mutator}
 use Rattle.barriers.specs.Barriers.{is_monitor_storable}
 use Rattle.instructions.specs.Frames.{when_some, with_top, onward}
-use Rattle.instructions.specs.ObjectTransitions.{ObjectTransition, beside}
+use Rattle.instructions.specs.ObjectTransitions.{ObjectTransition, with_objects}
 
 -- ---- monitors
 
@@ -26,9 +26,9 @@ reference_from (Ref a ∷ rest) m go = go a (with_stack m rest)
 reference_from _ m go = None
 
 -- where the effect lets the thread continue, the operand is gone; otherwise the frames stay
-abbrev pub carry : Frames → Frames → Objects × Effect → ObjectTransition
-carry m popped (o, Continues) = beside o (onward popped)
-carry m popped (o, e) = Some (m, o, e)
+abbrev pub pop_if_continues : Frames → Frames → Objects × Effect → ObjectTransition
+pop_if_continues m popped (o, Continues) = with_objects o (onward popped)
+pop_if_continues m popped (o, e) = Some (m, o, e)
 
 -- a monitor that can be entered once more and counted
 abbrev pub is_countable : Option Monitor → Bool
@@ -38,12 +38,12 @@ is_countable (Some monitor) = nat_lt (entries monitor) (2 ^ 32 - 1)
 -- Monitor.Enter (I.12.6.5)
 abbrev pub enter_transition : Mutator → Frames → Objects → ObjectTransition
 enter_transition mutator m o = reference_from m.running.stack m (λ a n.
-    if (a.number == 0) || (is_countable (monitor_at o a) && is_monitor_storable mutator.phase o a) then carry m n (with_entry mutator o a) else None)
+    if (a.number == 0) || (is_countable (monitor_at o a) && is_monitor_storable mutator.phase o a) then pop_if_continues m n (with_entry mutator o a) else None)
 
 -- Monitor.Exit (I.12.6.5)
 abbrev pub exit_transition : Mutator → Frames → Objects → ObjectTransition
 exit_transition mutator m o = reference_from m.running.stack m (λ a n.
-    if (a.number == 0) || (is_some (monitor_at o a) && is_monitor_storable mutator.phase o a) then carry m n (with_exit mutator o a) else None)
+    if (a.number == 0) || (is_some (monitor_at o a) && is_monitor_storable mutator.phase o a) then pop_if_continues m n (with_exit mutator o a) else None)
 
 -- ---- printing
 

@@ -13,7 +13,7 @@ use Rattle.cil_model.specs.declared.values.ValueKind.{ValueKind}
 use Rattle.object_memory.specs.Cells.{Cell}
 use Rattle.object_memory.specs.Objects.{Objects, object_cell}
 use Rattle.object_memory.specs.Values.{value_in}
-use Rattle.barriers.specs.Barriers.{can_bear, is_static_storable, is_storable, object_born, stored_static, stored_value}
+use Rattle.barriers.specs.Barriers.{can_allocate, is_static_storable, is_storable, object_born, stored_static, stored_value}
 use Rattle.threads_monitors.specs.Frames.{Frames}
 use Rattle.threads_monitors.specs.declared.effects.Effect.{Effect}
 use Rattle.threads_monitors.specs.declared.effects.Effect.TheVariants.{Raises}
@@ -24,8 +24,8 @@ abbrev pub ObjectTransition : Type 0
 ObjectTransition = Option (Frames × Objects × Effect)
 
 -- a transition of the frames beside these objects
-abbrev pub beside : Objects → Transition → ObjectTransition
-beside o transition = option_map (λ (t : Frames × Effect). (t.0, o, t.1)) transition
+abbrev pub with_objects : Objects → Transition → ObjectTransition
+with_objects o transition = option_map (λ (t : Frames × Effect). (t.0, o, t.1)) transition
 
 -- ---- operands
 
@@ -51,12 +51,12 @@ slots_of o a = option_map (λ (c : Cell). c.slots) (object_cell o a)
 
 -- leaves the value of a slot, of its kind
 abbrev pub load_slot : ValueKind → ℕ → Addr → Frames → Objects → ObjectTransition
-load_slot kind slot a m o = when_some (slots_of o a) (λ slots. when_some (slice_get slots slot) (λ w. beside o (value_pushed (value_in kind w) m)))
+load_slot kind slot a m o = when_some (slots_of o a) (λ slots. when_some (slice_get slots slot) (λ w. with_objects o (value_pushed (value_in kind w) m)))
 
 -- stores to a slot, by the phase of the thread, and advances
 abbrev pub store_slot : Phase → Value → ℕ → Addr → Frames → Objects → ObjectTransition
 store_slot phase v slot a m o = when_some (slots_of o a) (λ slots. when_some (slice_get slots slot) (λ w.
-    if is_storable phase o a slot v then beside (stored_value phase o a slot v) (onward m) else None))
+    if is_storable phase o a slot v then with_objects (stored_value phase o a slot v) (onward m) else None))
 
 -- ldfld (III.4.10)
 abbrev pub load_field_transition : ValueKind → ℕ → Frames → Objects → ObjectTransition
@@ -80,7 +80,7 @@ in_range (Some n) m o go = go n
 
 -- ldlen (III.4.12)
 abbrev pub load_length_transition : Frames → Objects → ObjectTransition
-load_length_transition m o = with_top m (λ array n. object_of array n o (λ a. when_some (slots_of o a) (λ slots. beside o (value_pushed (Native (pos (length slots))) n))))
+load_length_transition m o = with_top m (λ array n. object_of array n o (λ a. when_some (slots_of o a) (λ slots. with_objects o (value_pushed (Native (pos (length slots))) n))))
 
 -- ldelem.i4, ldelem.i8 and ldelem.ref (III.4.8)
 abbrev pub load_element_transition : ValueKind → Frames → Objects → ObjectTransition
@@ -99,16 +99,16 @@ object_pushed (Some a) m = value_pushed (Ref a) m
 
 -- the same beside the objects
 abbrev pub birth_transition : Frames → Objects × Option Addr → ObjectTransition
-birth_transition m birth = beside birth.0 (object_pushed birth.1 m)
+birth_transition m birth = with_objects birth.0 (object_pushed birth.1 m)
 
 -- continues with what a birth gives, by the phase of the thread
-abbrev pub bears : Phase → Objects → Kind → ℕ → (Objects × Option Addr → ObjectTransition) → ObjectTransition
-bears phase o kind slots go = if can_bear phase o then go (object_born phase o kind slots) else None
+abbrev pub allocate_then : Phase → Objects → Kind → ℕ → (Objects × Option Addr → ObjectTransition) → ObjectTransition
+allocate_then phase o kind slots go = if can_allocate phase o then go (object_born phase o kind slots) else None
 
 -- of a length that isn't negative
 abbrev pub new_array_of : Phase → ArrayElement → ℤ → Frames → Objects → ObjectTransition
 new_array_of phase element (negsuc n) m o = Some (m, o, Raises Overflow)
-new_array_of phase element (pos n) m o = bears phase o (Array element) n (birth_transition m)
+new_array_of phase element (pos n) m o = allocate_then phase o (Array element) n (birth_transition m)
 
 -- newarr (III.4.20)
 abbrev pub new_array_transition : Phase → ArrayElement → Frames → Objects → ObjectTransition
@@ -125,10 +125,10 @@ abbrev pub StaticTransition : Type 0
 StaticTransition = Option (Frames × (Objects × List Value) × Effect)
 
 -- a transition of the frames beside these objects and static fields
-abbrev pub beside_statics : Objects × List Value → Transition → StaticTransition
-beside_statics memory transition = option_map (λ (t : Frames × Effect). (t.0, memory, t.1)) transition
+abbrev pub with_statics : Objects × List Value → Transition → StaticTransition
+with_statics memory transition = option_map (λ (t : Frames × Effect). (t.0, memory, t.1)) transition
 
 -- stsfld (III.4.30), by the phase of the thread
 abbrev pub store_static_transition : Phase → ℕ → Frames → Objects → List Value → StaticTransition
 store_static_transition phase number m o statics = with_top m (λ v n.
-    if nat_lt number (length statics) && is_static_storable phase o v then beside_statics (stored_static phase o statics number v) (onward n) else None)
+    if nat_lt number (length statics) && is_static_storable phase o v then with_statics (stored_static phase o statics number v) (onward n) else None)

@@ -28,7 +28,7 @@ use Rattle.object_memory.specs.Objects.{Objects, object_cell}
 use Rattle.threads_monitors.specs.Frames.{Frames}
 use Rattle.threads_monitors.specs.declared.effects.Effect.TheVariants.{Raises}
 use Rattle.instructions.specs.Frames.{when_some, with_top, value_pushed}
-use Rattle.instructions.specs.ObjectTransitions.{ObjectTransition, beside, object_of, index_of, slots_of, checked_index, in_range, store_slot, store_element_transition}
+use Rattle.instructions.specs.ObjectTransitions.{ObjectTransition, with_objects, object_of, index_of, slots_of, checked_index, in_range, store_slot, store_element_transition}
 
 -- ---- the types of objects
 
@@ -68,7 +68,7 @@ may_be_used_as tree o v to = option_and_then (may_be_used tree o v) (type_at tre
 -- what castclass and isinst do with an object of another class
 abbrev pub cast_transition : Tree → (Frames → Objects → ObjectTransition) → ResolvedType → Frames → Objects → ObjectTransition
 cast_transition tree otherwise to m o = with_top m (λ v n. when_some (may_be_used_as tree o v to) (λ holds.
-    if holds then beside o (value_pushed v n) else otherwise n o))
+    if holds then with_objects o (value_pushed v n) else otherwise n o))
 
 -- castclass (III.4.3)
 abbrev pub cast_class_transition : Tree → ResolvedType → Frames → Objects → ObjectTransition
@@ -76,7 +76,7 @@ cast_class_transition tree to m o = cast_transition tree (λ n p. Some (n, p, Ra
 
 -- isinst (III.4.6)
 abbrev pub is_instance_transition : Tree → ResolvedType → Frames → Objects → ObjectTransition
-is_instance_transition tree to m o = cast_transition tree (λ n p. beside p (value_pushed (Ref (record { number = 0 })) n)) to m o
+is_instance_transition tree to m o = cast_transition tree (λ n p. with_objects p (value_pushed (Ref (record { number = 0 })) n)) to m o
 
 -- what an array holds, of an object of this kind
 abbrev pub element_in : Kind → Option ArrayElement

@@ -1,7 +1,7 @@
 //! Casts, and stores of references to arrays.
 
 ghost use Rattle.std.specs.Prelude.{◌≡◌, IsSome, Some};
-ghost use Rattle.class_layout.specs.Laid.{IsLayout};
+ghost use Rattle.class_layout.specs.Layouts.{IsLayout};
 ghost use Rattle.instructions.specs.TypeTransitions.{cast_class_transition, is_instance_transition, store_reference_transition, store_admitted, element_at, held_type};
 
 use crate::arrays::{checked_index, index};

@@ -1,15 +1,15 @@
 //! Returns.
 
 ghost use Rattle.std.specs.Prelude.{◌≡◌, IsSome, Some};
-ghost use Rattle.instructions.specs.Calls.{gives, return_transition};
+ghost use Rattle.instructions.specs.Calls.{return_to_caller, return_transition};
 
 use object_memory::Value;
 use threads_monitors::{Effect, FrameMemory};
 
 /// Gives a value, or none, to the frame below, which runs again. Without one below the thread's first method has returned.
 fn give(frames: &mut FrameMemory, value: Option<Value>) -> Effect
-    requires { IsSome (gives value frames.old) }
-    ensures { Some (frames.new, result) ≡ gives value frames.old }
+    requires { IsSome (return_to_caller value frames.old) }
+    ensures { Some (frames.new, result) ≡ return_to_caller value frames.old }
 {
     if frames.is_first() {
         return Effect::Returns;

@@ -3,7 +3,7 @@
 ghost use Rattle.std.specs.Prelude.{◌≡◌, IsSome, Some};
 ghost use Rattle.cil_model.specs.declared.trees.Tree.{Tree};
 ghost use Rattle.cil_model.specs.declared.types.DeclaredType.{DeclaredType};
-ghost use Rattle.class_layout.specs.Laid.{IsLayout};
+ghost use Rattle.class_layout.specs.Layouts.{IsLayout};
 ghost use Rattle.resolved_code.specs.ById.{type_at};
 ghost use Rattle.instructions.specs.TypeTransitions.{resolved_element, type_of_kind, type_of_address, may_be_used_as};
 

@@ -8,7 +8,7 @@ use Rattle.cil_model.specs.declared.limits.Limits.{Limits}
 use Rattle.cil_model.specs.declared.reports.Report.{Report}
 use Rattle.cil_model.specs.declared.trees.Tree.{Tree}
 use Rattle.simulation.specs.MachineStates.{MachineState}
-use Rattle.simulation.specs.Retained.{AreCyclesBounded, LeavesOnlyRetained}
+use Rattle.simulation.specs.RetainedObjects.{AreCyclesBounded, LeavesOnlyRetained}
 use Rattle.simulation.specs.Runs.{AreTransitions, RefinesAfter}
 use Rattle.simulation.specs.Transitions.{initial_machine_state}
 

@@ -1,8 +1,8 @@
 pub use Rattle.simulation.specs as simulation
-pub mod Acknowledging
+pub mod Acknowledgements
 pub mod CycleMemories
 pub mod Views
-pub mod Finishing
+pub mod FinishedSteps
 pub mod Refusals
 pub mod Statics
 pub mod Positions
@@ -13,4 +13,4 @@ pub mod Forwards
 pub mod Histories
 pub mod Loans
 pub mod Alike
-pub mod Beginnings
+pub mod InitialStates

@@ -2,8 +2,8 @@
 use Rattle.std.specs.Prelude.{◌≡◌, ◌⊎◌, ◌<◌, ◌≤◌, ◌+◌, ◌-◌, ℕ}
 use Rattle.cil_model.specs.declared.trees.Tree.{Tree}
 use Rattle.threads_monitors.specs.Frames.{Frame, Frames}
-use Rattle.simulation.specs.interpreter.Local.{AreLocalSteps, EndsLocal, IsReadySomewhere, alone, frames_over}
-use Rattle.simulation.specs.Lending.{RunsFrame, with_live}
+use Rattle.simulation.specs.interpreter.Local.{AreLocalSteps, EndsLocal, IsReadySomewhere, single_frame, frames_over}
+use Rattle.simulation.specs.LentFrames.{RunsFrame, with_live}
 use Rattle.simulation.specs.MachineStates.{MachineState, frame_room}
 
 -- the program, the thread, how many steps it had left as the loan began, the frame that it had then, the frame as it is now, and how many instructions
@@ -56,7 +56,7 @@ IsAtOrigin c l = RunsFrame c l.thread l.left l.origin
 
 -- the memory of a frame that is alone
 abbrev pub IsAlone : Frames → Type 0
-IsAlone m = m ≡ alone frame_room m.running
+IsAlone m = m ≡ single_frame frame_room m.running
 
 -- from this frame of a thread that has this many steps left, n local instructions lead to that frame: at most `most`, a step is left after them, and
 -- they are fewer only where no further one is done

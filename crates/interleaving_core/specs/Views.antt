@@ -15,7 +15,7 @@ use Rattle.simulation.specs.interpreter.Instructions.{IsDone, Answer}
 use Rattle.simulation.specs.MachineStates.{MachineState, mutator_of}
 use Rattle.simulation.specs.Refines.{Represents}
 use Rattle.simulation.specs.Sound.{IsSound}
-use Rattle.simulation.specs.Ready.{IsReady, IsAnswerable}
+use Rattle.simulation.specs.ReadySteps.{IsReady, IsAnswerable}
 use Rattle.interleaving_core.specs.declared.engine.Engine.{Engine}
 
 -- the machine state of an engine

@@ -4,11 +4,11 @@ ghost use Rattle.std.specs.Prelude.{◌≡◌, ◌≤◌, true, length, Some, sl
 ghost use Rattle.threads_monitors.specs.Frames.{Frame};
 ghost use Rattle.object_memory.specs.Spaces.{IsThere, forward};
 ghost use Rattle.threads_monitors.specs.Roots.{frame_roots, frames_upward, roots, with_references};
-ghost use Rattle.simulation.specs.Collecting.{answers_round, flips_frames, with_flipped, with_roots_marked, with_thread_marked};
+ghost use Rattle.simulation.specs.CollectorSteps.{answers_round, flips_frames, with_flipped, with_roots_marked, with_thread_marked};
 ghost use Rattle.simulation.specs.Sound.{IsSound};
 ghost use Rattle.simulation.specs.Transitions.{IsTransition};
 ghost use Rattle.cil_model.specs.declared.events.Event.TheVariants.{Ack as AckOf};
-ghost use Rattle.interleaving_core.specs.Acknowledging.{AreAllThere};
+ghost use Rattle.interleaving_core.specs.Acknowledgements.{AreAllThere};
 ghost use Rattle.interleaving_core.specs.Views.{machine_state_of};
 
 use crate::engine::Engine;

@@ -7,7 +7,7 @@ ghost use Rattle.cil_model.specs.declared.phases.Phase.TheVariants.{Idle as Idle
 ghost use Rattle.cil_model.specs.declared.reports.Report.TheVariants.{Worked as WorkedOf};
 ghost use Rattle.reference_machine.specs.Cycles.{phase_after};
 ghost use Rattle.phase_handshake.specs.Handshakes.{all_seen};
-ghost use Rattle.simulation.specs.Collecting.{cycle_opened, mark_work, initial_words, rounds, with_next_phase, work};
+ghost use Rattle.simulation.specs.CollectorSteps.{cycle_opened, mark_work, initial_words, rounds, with_next_phase, work};
 ghost use Rattle.simulation.specs.Sound.{IsSound};
 ghost use Rattle.simulation.specs.Transitions.{IsTransition, TakesMemory};
 ghost use Rattle.interleaving_core.specs.Views.{machine_state_of};

@@ -14,22 +14,22 @@ ghost use Rattle.threads_monitors.specs.Threads.{is_live, is_live_at, start_faul
 ghost use Rattle.simulation.specs.interpreter.declared.outcomes.InstructionOutcome.TheVariants.{Starts as StartsOn, Joins as JoinsOn};
 ghost use Rattle.simulation.specs.interpreter.Instructions.{Prints};
 ghost use Rattle.simulation.specs.MachineStates.{mutator_of};
-ghost use Rattle.simulation.specs.Ready.{CanFinish};
+ghost use Rattle.simulation.specs.ReadySteps.{CanFinish};
 ghost use Rattle.simulation.specs.Transitions.{IsTransition, TakesMemory, answer_step, count_step, finish, live_thread, initial_machine_state, seat_thread, start_thread, thread_for};
 ghost use Rattle.interleaving_core.specs.Views.{CanContinue, machine_state_of, end_at};
 ghost use Rattle.interleaving_core.specs.Monitors.{next_monitor};
 ghost use Rattle.interleaving_core.specs.Positions.{position_at};
 ghost use Rattle.interleaving_core.specs.Prints.{next_print};
 ghost use Rattle.interleaving_core.specs.Waits.{wait_at};
-ghost use Rattle.interleaving_core.specs.Finishing.{IsInstructed};
+ghost use Rattle.interleaving_core.specs.FinishedSteps.{IsInstructed};
 
-use crate::beginnings::beginning_on;
 use crate::cycle_memory::CycleMemory;
 use crate::initial_states::{initial_parts, reset_heap};
 use crate::monitors::monitor_in;
 use crate::positions::{Position, position_of};
 use crate::prints::print_length_in;
 use crate::steps::{answer, instruct, leave_if_ended, seat_started};
+use crate::thread_starts::thread_start_on;
 use crate::waits::{Wait, wait_in};
 use cil_model::events::Event;
 use cil_model::limits::Limits;
@@ -219,7 +219,7 @@ impl Engine {
         if let Some(fault) = start_fault(&self.threads, &self.store.heap, object) {
             return Ok(Effect::Raises(fault));
         }
-        let beginning = beginning_on(&self.program, self.limits, &self.store.heap, object);
+        let thread_start = thread_start_on(&self.program, self.limits, &self.store.heap, object);
         let number = self.threads.len();
         let effect = start(
             alloc,
@@ -227,7 +227,7 @@ impl Engine {
             &mut self.store.heap,
             self.posts.phase(starter),
             object,
-            beginning,
+            thread_start,
         )?;
         seat_started(&mut self.posts, effect, number, starter);
         Ok(effect)

@@ -9,11 +9,11 @@ ghost use Rattle.cil_model.specs.Mentions.{literals_of};
 ghost use Rattle.object_memory.specs.Objects.{no_objects};
 ghost use Rattle.simulation.specs.Transitions.{initial_machine_state};
 ghost use Rattle.interleaving_core.specs.Views.{machine_state_of};
-ghost use Rattle.interleaving_core.specs.Beginnings.{initial_machine_state_of};
+ghost use Rattle.interleaving_core.specs.InitialStates.{initial_machine_state_of};
 ghost use Rattle.interleaving_core.specs.Statics.{declared_fields, zeros_of};
 
-use crate::beginnings::beginning;
 use crate::engine::Engine;
+use crate::thread_starts::thread_start;
 use cil_model::limits::{Limits, MOST_WORDS};
 use cil_model::memory::NoMemory;
 use cil_model::trees::{Class, ClassKind, Field};
@@ -104,7 +104,7 @@ pub(crate) fn initial_parts(
 {
     let statics = initial_statics(alloc, program.program().tree().classes.as_slice())?;
     let entry = program.number(program.program().entry_point());
-    let first = Thread::new(alloc, beginning(program, limits, entry), &[])?;
+    let first = Thread::new(alloc, thread_start(program, limits, entry), &[])?;
     let mut threads = Vec::new(alloc);
     threads.push(first)?;
     Ok((threads, statics))

@@ -7,7 +7,6 @@
 
 mod acknowledgements;
 mod alike;
-mod beginnings;
 mod collections;
 mod cycle_memory;
 mod engine;
@@ -19,6 +18,7 @@ mod monitors;
 mod positions;
 mod prints;
 mod steps;
+mod thread_starts;
 mod waits;
 
 pub use loans::{Loan, LoanRoom};

@@ -2,16 +2,16 @@
 
 ghost use Rattle.std.specs.Prelude.{◌≡◌, ◌↔◌, ◌<◌, ◌≤◌, ◌-◌, ℕ, IfOk, IsTrue, Some, slice_get, true, false};
 ghost use Rattle.threads_monitors.specs.Frames.{Frame, Frames, with_running};
-ghost use Rattle.simulation.specs.interpreter.Local.{AreLocalSteps, IsNextLocal, IsReadySomewhere, alone, frames_over};
+ghost use Rattle.simulation.specs.interpreter.Local.{AreLocalSteps, IsNextLocal, IsReadySomewhere, single_frame, frames_over};
 ghost use Rattle.threads_monitors.specs.Threads.{is_live, is_live_at};
-ghost use Rattle.simulation.specs.Lending.{with_live};
+ghost use Rattle.simulation.specs.LentFrames.{with_live};
 ghost use Rattle.interleaving_core.specs.Views.{machine_state_of};
 ghost use Rattle.simulation.specs.MachineStates.{frame_room};
 ghost use Rattle.simulation.specs.Transitions.{live_thread};
 ghost use Rattle.interleaving_core.specs.Loans.{Begins, CanContinueLocally, IsAlone, IsAtOrigin, IsLent, IsLocalRun, RanInPlace, RanLocally};
 
-use crate::beginnings::FRAME_ROOM;
 use crate::engine::Engine;
+use crate::thread_starts::FRAME_ROOM;
 use cil_model::memory::NoMemory;
 use simulation::interpreter_code::loaded_code::LoadedProgram;
 use simulation::interpreter_code::local_runs::{is_next_local, run_local};

@@ -5,7 +5,7 @@ ghost use Rattle.cil_model.specs.declared.limits.TheConstants.{MOST_THREADS};
 ghost use Rattle.resolved_code.specs.declared.operations.Operation.{Operation as AnyOperation};
 ghost use Rattle.object_memory.specs.Cells.{null};
 ghost use Rattle.object_memory.specs.Objects.{monitor_at, object_slots};
-ghost use Rattle.simulation.specs.loaded_program.Prepared.{action_named};
+ghost use Rattle.simulation.specs.loaded_program.LocalKinds.{action_named};
 ghost use Rattle.simulation.specs.interpreter.Calls.{class_at, top_reference};
 ghost use Rattle.simulation.specs.interpreter.Instructions.{IsAt, line_at};
 ghost use Rattle.interleaving_core.specs.Views.{machine_state_of};

@@ -6,7 +6,7 @@ use Rattle.resolved_code.specs.declared.operations.Operation.{Operation}
 use Rattle.object_memory.specs.declared.values.Value.{Value}
 use Rattle.object_memory.specs.Objects.{Objects}
 use Rattle.loaded_program.specs.declared.instructions.LinkedInstruction.{LinkedInstruction}
-use Rattle.loaded_program.specs.Loaded.{IsLinkedAt}
+use Rattle.loaded_program.specs.LoadedPrograms.{IsLinkedAt}
 use Rattle.threads_monitors.specs.declared.mutators.Mutator.{Mutator}
 use Rattle.threads_monitors.specs.Frames.{Frames}
 use Rattle.interpreter.specs.Instructions.{HasSmallConstant, IsAt, linked_transition, operation_transition}

@@ -17,7 +17,7 @@ use Rattle.loaded_program.specs.declared.instructions.LinkedInstruction.{LinkedI
 use Rattle.loaded_program.specs.declared.instructions.LinkedInstruction.TheVariants as Linked
 use Rattle.loaded_program.specs.Operands.{class_in, slots_at}
 use Rattle.loaded_program.specs.Links.{IsLinked, link, number_at}
-use Rattle.loaded_program.specs.Loaded.{has_value}
+use Rattle.loaded_program.specs.LoadedPrograms.{has_value}
 use Rattle.loaded_program.proofs.FlatLaws.{method_of_number}
 use Rattle.threads_monitors.specs.declared.mutators.Mutator.{Mutator}
 use Rattle.threads_monitors.specs.Frames.{Frames}

@@ -10,7 +10,7 @@ use Rattle.cil_model.specs.declared.trees.Tree.{Tree}
 use Rattle.resolved_code.specs.declared.operations.Operation.{Operation}
 use Rattle.object_memory.specs.declared.values.Value.{Value}
 use Rattle.object_memory.specs.Objects.{Objects}
-use Rattle.loaded_program.specs.Loaded.{IsCode, IsLinkedAt, IsLinkedLine, line_in}
+use Rattle.loaded_program.specs.LoadedPrograms.{IsCode, IsLinkedAt, IsLinkedLine, line_in}
 use Rattle.loaded_program.proofs.MethodLaws.{alike_from, some_of}
 use Rattle.cil_model.specs.Bodies.{lines_of}
 use Rattle.loaded_program.specs.declared.instructions.LinkedInstruction.{LinkedInstruction}
@@ -22,7 +22,7 @@ use Rattle.instructions.specs.Frames.{Transition}
 use Rattle.instructions.specs.LocalTransitions.{IsFaulty}
 use Rattle.interpreter.specs.declared.outcomes.InstructionOutcome.TheVariants.{OwnEffect}
 use Rattle.interpreter.specs.Instructions.{IsAt, IsDone, answer_of, link_of, linked_transition, of_frames, operation_transition}
-use Rattle.interpreter.specs.Local.{EndsLocal, IsLocalStep, IsNextLocal, IsReadySomewhere, alone, frames_over, is_local, is_local_link, local_link_transition}
+use Rattle.interpreter.specs.Local.{EndsLocal, IsLocalStep, IsNextLocal, IsReadySomewhere, single_frame, frames_over, is_local, is_local_link, local_link_transition}
 use Rattle.interpreter.proofs.LinkedExecution.{linked_here}
 use Rattle.interpreter.proofs.LinkedTransitions.{link_does, link_is}
 use Rattle.interpreter.proofs.LocalKeeps.{local_keeps}
@@ -63,30 +63,30 @@ module _ (tree : Tree) (room : ℕ) (f : Frame) (l : LinkedInstruction) (at : Is
   has_answer = ready.there op (at_over ready.below ready.depth) at.linked.links.constant
 
   -- so it is linked to this, over any frames
-  linked : link_of tree (alone room f) op ≡ Some l
+  linked : link_of tree (single_frame room f) op ≡ Some l
   linked = link_is tree ready.mutator somewhere ready.objects ready.statics ready.printed at.found at.found_is op l at.linked.links.is has_answer
 
-  pub is_alike : is_local_link l ≡ is_local tree (alone room f) op
+  pub is_alike : is_local_link l ≡ is_local tree (single_frame room f) op
   is_alike = sym (ap (λ x. option_map_or is_local_link x false) linked)
 
   -- a local one has a result on the frame alone
-  has_local : is_local_link l ≡ true → IsSome (local_link_transition l (alone room f))
+  has_local : is_local_link l ≡ true → IsSome (local_link_transition l (single_frame room f))
   has_local local =
       let there : IsSome (linked_transition tree ready.mutator l somewhere ready.objects ready.statics ready.printed) =
       subst IsSome (link_does tree ready.mutator somewhere ready.objects ready.statics ready.printed op l linked) has_answer in
       let on_frames : IsSome (local_link_transition l somewhere) =
       framed_some ready.objects ready.statics ready.printed (local_link_transition l somewhere) (subst IsSome (local_is tree ready.mutator somewhere ready.objects ready.statics ready.printed l local) there) in
-      moved_some ready.below ready.depth (local_link_transition l (alone room f)) (subst IsSome (local_moves ready.below ready.depth l (alone room f)) on_frames)
+      moved_some ready.below ready.depth (local_link_transition l (single_frame room f)) (subst IsSome (local_moves ready.below ready.depth l (single_frame room f)) on_frames)
 
   -- over any frames and in any memory
   module _ (local : is_local_link l ≡ true) (below : List Frame) (depth : ℕ) (mutator : Mutator) (o : Objects) (statics : List Value) (printed : List ℕ) where
     abbrev here : Frames
     here = frames_over f below depth room
 
-    on_linked : linked_transition tree mutator l here o statics printed ≡ of_frames o statics printed (moved_transition below depth (local_link_transition l (alone room f)))
-    on_linked = local_is tree mutator here o statics printed l local ∙ ap (of_frames o statics printed) (local_moves below depth l (alone room f))
+    on_linked : linked_transition tree mutator l here o statics printed ≡ of_frames o statics printed (moved_transition below depth (local_link_transition l (single_frame room f)))
+    on_linked = local_is tree mutator here o statics printed l local ∙ ap (of_frames o statics printed) (local_moves below depth l (single_frame room f))
 
-    pub done_here : (m : Frames) (e : Effect) → local_link_transition l (alone room f) ≡ Some (m, e) →
+    pub done_here : (m : Frames) (e : Effect) → local_link_transition l (single_frame room f) ≡ Some (m, e) →
         IsDone tree mutator here o statics printed (answer_of (record m { below = below; depth = depth }) o statics printed (OwnEffect e))
     done_here m e is = record {
       operation = op;
@@ -100,7 +100,7 @@ module _ (tree : Tree) (room : ℕ) (f : Frame) (l : LinkedInstruction) (at : Is
   next_is local is = (op, at_over [] 1, sym is_alike ∙ sym is)
 
   -- it is one of the frame
-  local_step : is_local_link l ≡ true → (m : Frames) → local_link_transition l (alone room f) ≡ Some (m, Continues) → m ≡ alone room m.running → IsLocalStep tree room f m.running
+  local_step : is_local_link l ≡ true → (m : Frames) → local_link_transition l (single_frame room f) ≡ Some (m, Continues) → m ≡ single_frame room m.running → IsLocalStep tree room f m.running
   local_step local m is same = record {
     operation = op;
     at = at_over [] 1;
@@ -111,7 +111,7 @@ module _ (tree : Tree) (room : ℕ) (f : Frame) (l : LinkedInstruction) (at : Is
   }
 
   -- or it is none, or raises a fault
-  ends_here : (is_local_link l ≡ false) ⊎ ((is_local_link l ≡ true) × IsFaulty (local_link_transition l (alone room f))) → EndsLocal tree room f
+  ends_here : (is_local_link l ≡ false) ⊎ ((is_local_link l ≡ true) × IsFaulty (local_link_transition l (single_frame room f))) → EndsLocal tree room f
   ends_here (inl other) = inl (op, at_over [] 1, sym is_alike ∙ other)
   ends_here (inr (local, (m, fault, raises))) =
       inr (record {
@@ -124,16 +124,16 @@ module _ (tree : Tree) (room : ℕ) (f : Frame) (l : LinkedInstruction) (at : Is
 
   -- the same over the frames below
   module _ (below : List Frame) (depth : ℕ) where
-    alone_from : (m : Frames) (e : Effect) → local_link_transition l (frames_over f below depth room) ≡ Some (m, e) → (k : Frames) × (local_link_transition l (alone room f) ≡ Some (k, e)) × (m ≡ record k { below = below; depth = depth })
-    alone_from m e is = moved_from below depth (local_link_transition l (alone room f)) m e (sym (local_moves below depth l (alone room f)) ∙ is)
+    alone_from : (m : Frames) (e : Effect) → local_link_transition l (frames_over f below depth room) ≡ Some (m, e) → (k : Frames) × (local_link_transition l (single_frame room f) ≡ Some (k, e)) × (m ≡ record k { below = below; depth = depth })
+    alone_from m e is = moved_from below depth (local_link_transition l (single_frame room f)) m e (sym (local_moves below depth l (single_frame room f)) ∙ is)
 
     pub has_local_over : is_local_link l ≡ true → IsSome (local_link_transition l (frames_over f below depth room))
-    has_local_over local = subst IsSome (sym (local_moves below depth l (alone room f))) (some_moved below depth (local_link_transition l (alone room f)) (has_local local))
+    has_local_over local = subst IsSome (sym (local_moves below depth l (single_frame room f))) (some_moved below depth (local_link_transition l (single_frame room f)) (has_local local))
 
     pub step_over : is_local_link l ≡ true → (m : Frames) → local_link_transition l (frames_over f below depth room) ≡ Some (m, Continues) → IsLocalStep tree room f m.running
     step_over local m is =
         let on_frame = alone_from m Continues is in
-        let keeps = local_keeps l (alone room f) (on_frame.0, Continues) on_frame.1 in
+        let keeps = local_keeps l (single_frame room f) (on_frame.0, Continues) on_frame.1 in
         subst (IsLocalStep tree room f) (ap (λ (k : Frames). k.running) (sym on_frame.2)) (local_step local on_frame.0 on_frame.1 keeps.frames)
 
     pub ends_over : (is_local_link l ≡ false) ⊎ ((is_local_link l ≡ true) × IsFaulty (local_link_transition l (frames_over f below depth room))) → EndsLocal tree room f

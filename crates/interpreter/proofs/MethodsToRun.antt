@@ -3,7 +3,7 @@ use Rattle.std.proofs.Common.{◌≡◌, ℕ, List, Option, Some, None, option_m
 use Rattle.std.specs.Prelude.{IsSome, length, slice_get}
 use Rattle.cil_model.specs.Bodies.{argument_types}
 use Rattle.cil_model.specs.declared.values.ValueKind.{ValueKind}
-use Rattle.loaded_program.specs.Loaded.{IsLoadedMethod}
+use Rattle.loaded_program.specs.LoadedPrograms.{IsLoadedMethod}
 use Rattle.loaded_program.specs.declared.loaded_methods.LoadedMethod.{LoadedMethod}
 use Rattle.std.specs.Option.{option_map_or}
 use Rattle.cil_model.specs.declared.types.ClassName.{ClassName}
@@ -17,9 +17,9 @@ use Rattle.loaded_program.specs.MethodNumbers.{number_of}
 use Rattle.threads_monitors.specs.declared.mutators.Mutator.{Mutator}
 use Rattle.threads_monitors.specs.Frames.{Frames}
 use Rattle.instructions.specs.Frames.{Transition, when_some}
-use Rattle.instructions.specs.ObjectTransitions.{beside}
+use Rattle.instructions.specs.ObjectTransitions.{with_objects}
 use Rattle.instructions.specs.Calls.{call_transition, new_object_transition, new_plain_object_transition}
-use Rattle.interpreter.specs.Calls.{act_transition, beside_console, call_by_id, called_as, make_object, made_by_id, run_transition}
+use Rattle.interpreter.specs.Calls.{act_transition, with_console, call_by_id, called_method, make_object, made_by_id, run_transition}
 
 -- ---- options
 
@@ -44,7 +44,7 @@ given_there None go there = there
 
 -- a loaded method is called as the rule says
 pub called_alike : (tree : Tree) (found : ClassName × Method) (loaded : LoadedMethod) (k : ℕ) (locals : List ValueKind) → IsLoadedMethod tree found loaded → locals ≡ loaded.locals.items
-    → record { method = k; arguments = loaded.arguments; locals = locals } ≡ called_as found k
+    → record { method = k; arguments = loaded.arguments; locals = locals } ≡ called_method found k
 called_alike tree found loaded k locals known same =
     ap (λ (x : ℕ). record { method = k; arguments = x; locals = locals }) known.arguments
     ∙ ap (λ (x : List ValueKind). record { method = k; arguments = length (argument_types found.1 found.0); locals = x }) (same ∙ known.locals)
@@ -56,16 +56,16 @@ module _ (tree : Tree) (mutator : Mutator) (n : ℕ) (found : ClassName × Metho
   pub run_acts : (a : Action) → action_of found.0 found.1 ≡ Some a → call_by_id tree mutator n m o console ≡ act_transition tree mutator a m o console
   run_acts a is =
       runs_found
-      ∙ ap (λ x. option_map_or (λ b. act_transition tree mutator b m o console) x (when_some (number_of tree found) (λ k. beside_console console (beside o (call_transition (called_as found k) m))))) is
+      ∙ ap (λ x. option_map_or (λ b. act_transition tree mutator b m o console) x (when_some (number_of tree found) (λ k. with_console console (with_objects o (call_transition (called_method found k) m))))) is
 
-  pub run_calls : action_of found.0 found.1 ≡ None → number_of tree found ≡ Some n → call_by_id tree mutator n m o console ≡ beside_console console (beside o (call_transition (called_as found n) m))
+  pub run_calls : action_of found.0 found.1 ≡ None → number_of tree found ≡ Some n → call_by_id tree mutator n m o console ≡ with_console console (with_objects o (call_transition (called_method found n) m))
   run_calls is has_id =
       runs_found
-      ∙ ap (λ x. option_map_or (λ b. act_transition tree mutator b m o console) x (when_some (number_of tree found) (λ k. beside_console console (beside o (call_transition (called_as found k) m))))) is
-      ∙ ap (λ x. when_some x (λ k. beside_console console (beside o (call_transition (called_as found k) m)))) has_id
+      ∙ ap (λ x. option_map_or (λ b. act_transition tree mutator b m o console) x (when_some (number_of tree found) (λ k. with_console console (with_objects o (call_transition (called_method found k) m))))) is
+      ∙ ap (λ x. when_some x (λ k. with_console console (with_objects o (call_transition (called_method found k) m)))) has_id
 
-  pub call_there : (t : Transition) → IsSome (beside_console console (beside o t)) → IsSome t
-  call_there t there = mapped_there _ t (mapped_there _ (beside o t) there)
+  pub call_there : (t : Transition) → IsSome (with_console console (with_objects o t)) → IsSome t
+  call_there t there = mapped_there _ t (mapped_there _ (with_objects o t) there)
 
   module _ (class slots : ℕ) where
     made_found : made_by_id tree mutator class slots n m o ≡ make_object tree mutator class slots found m o
@@ -74,10 +74,10 @@ module _ (tree : Tree) (mutator : Mutator) (n : ℕ) (found : ClassName × Metho
     pub made_plain : (a : Action) → action_of found.0 found.1 ≡ Some a → made_by_id tree mutator class slots n m o ≡ new_plain_object_transition mutator.phase class slots m o
     made_plain a is =
         made_found
-        ∙ ap (λ x. option_map_or (λ b. new_plain_object_transition mutator.phase class slots m o) x (when_some (number_of tree found) (λ k. new_object_transition mutator.phase class slots (called_as found k) m o))) is
+        ∙ ap (λ x. option_map_or (λ b. new_plain_object_transition mutator.phase class slots m o) x (when_some (number_of tree found) (λ k. new_object_transition mutator.phase class slots (called_method found k) m o))) is
 
-    pub made_called : action_of found.0 found.1 ≡ None → number_of tree found ≡ Some n → made_by_id tree mutator class slots n m o ≡ new_object_transition mutator.phase class slots (called_as found n) m o
+    pub made_called : action_of found.0 found.1 ≡ None → number_of tree found ≡ Some n → made_by_id tree mutator class slots n m o ≡ new_object_transition mutator.phase class slots (called_method found n) m o
     made_called is has_id =
         made_found
-        ∙ ap (λ x. option_map_or (λ b. new_plain_object_transition mutator.phase class slots m o) x (when_some (number_of tree found) (λ k. new_object_transition mutator.phase class slots (called_as found k) m o))) is
-        ∙ ap (λ x. when_some x (λ k. new_object_transition mutator.phase class slots (called_as found k) m o)) has_id
+        ∙ ap (λ x. option_map_or (λ b. new_plain_object_transition mutator.phase class slots m o) x (when_some (number_of tree found) (λ k. new_object_transition mutator.phase class slots (called_method found k) m o))) is
+        ∙ ap (λ x. when_some x (λ k. new_object_transition mutator.phase class slots (called_method found k) m o)) has_id

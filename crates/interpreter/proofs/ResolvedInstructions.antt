@@ -11,7 +11,7 @@ use Rattle.cil_model.specs.Bodies.{code_of, lines_of}
 use Rattle.cil_model.proofs.Lists.{none_is_some}
 use Rattle.name_tables.specs.declared.ids.MethodId.{MethodId}
 use Rattle.name_tables.specs.Numbers.{method_at}
-use Rattle.resolved_code.specs.Resolved.{IsOperation, IsBody, IsResolvedMethod, BothAlike}
+use Rattle.resolved_code.specs.ResolvedPrograms.{IsOperation, IsBody, IsResolvedMethod, BothAlike}
 use Rattle.resolved_code.specs.declared.classes.Body.{Body}
 use Rattle.resolved_code.specs.declared.classes.ResolvedMethod.{ResolvedMethod}
 use Rattle.resolved_code.specs.declared.operations.Operation.{Operation}
@@ -65,20 +65,20 @@ module _ (tree : Tree) (m : Frames) where
           by_line f (slice_get (lines_of f.1) m.running.pc) at refl (ap (option_and_then (λ (found : ClassName × Method). slice_get (lines_of found.1) m.running.pc)) at)
 
   -- the body with the operation
-  pub record Placed (o : Option Body) : Type 0 where
+  pub record BodyAtPc (o : Option Body) : Type 0 where
     pub body : Body
     pub operation : Operation
     pub body_is : o ≡ Some body
     pub at : slice_get body.operations m.running.pc ≡ Some operation
     pub is_at : IsAt tree m operation
 
-  pub placed : (here : Lined) (o : Option Body) → BothAlike (IsBody tree) (code_of here.found.1.kind) o → Placed o
-  placed here o alike = by_code (code_of here.found.1.kind) refl alike
+  pub body_at_pc : (here : Lined) (o : Option Body) → BothAlike (IsBody tree) (code_of here.found.1.kind) o → BodyAtPc o
+  body_at_pc here o alike = by_code (code_of here.found.1.kind) refl alike
     where
       lines_are : (c : Option Code) → code_of here.found.1.kind ≡ c → lines_of here.found.1 ≡ option_map_or (λ (code : Code). code.lines) c []
       lines_are c e = ap (λ x. option_map_or (λ (code : Code). code.lines) x []) e
 
-      by_code : (c : Option Code) → code_of here.found.1.kind ≡ c → BothAlike (IsBody tree) c o → Placed o
+      by_code : (c : Option Code) → code_of here.found.1.kind ≡ c → BothAlike (IsBody tree) c o → BodyAtPc o
       by_code None e h = none_is_some here.line (sym (ap (λ ls. slice_get ls m.running.pc) (lines_are None e)) ∙ here.line_is)
       by_code (Some code) e h =
           let body = alike_some (IsBody tree) (Some code) o code h refl in

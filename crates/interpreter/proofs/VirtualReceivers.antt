@@ -8,7 +8,7 @@ use Rattle.cil_model.specs.declared.reports.Fault.TheVariants.{NullReference}
 use Rattle.object_memory.specs.declared.addresses.Addr.{Addr}
 use Rattle.object_memory.specs.Objects.{Objects}
 use Rattle.loaded_program.specs.AllMethods.{all_methods}
-use Rattle.loaded_program.specs.Loaded.{target_in}
+use Rattle.loaded_program.specs.LoadedPrograms.{target_in}
 use Rattle.loaded_program.proofs.OperandLaws.{then_some}
 use Rattle.threads_monitors.specs.declared.mutators.Mutator.{Mutator}
 use Rattle.threads_monitors.specs.Frames.{Frames}

@@ -21,15 +21,15 @@ use Rattle.object_memory.specs.Objects.{Objects, object_cell}
 use Rattle.loaded_program.specs.AllMethods.{all_methods}
 use Rattle.loaded_program.specs.name_tables.declared.ids.TheConstants.{STRING_NUMBER}
 use Rattle.loaded_program.specs.MethodNumbers.{number_of}
-use Rattle.loaded_program.specs.Prepared.{local_kinds}
+use Rattle.loaded_program.specs.LocalKinds.{local_kinds}
 use Rattle.threads_monitors.specs.declared.mutators.Mutator.{Mutator}
 use Rattle.threads_monitors.specs.Frames.{Frames}
 use Rattle.threads_monitors.specs.declared.effects.Effect.{Effect}
 use Rattle.threads_monitors.specs.declared.effects.Effect.TheVariants.{Raises}
-pub use Rattle.loaded_program.specs.Loaded.{chosen_by}
+pub use Rattle.loaded_program.specs.LoadedPrograms.{chosen_by}
 use Rattle.instructions.specs.Frames.{when_some, with_top, onward}
-use Rattle.instructions.specs.ObjectTransitions.{ObjectTransition, beside}
-use Rattle.instructions.specs.Calls.{Called, call_transition, new_object_transition, new_plain_object_transition}
+use Rattle.instructions.specs.ObjectTransitions.{ObjectTransition, with_objects}
+use Rattle.instructions.specs.Calls.{CalledMethod, call_transition, new_object_transition, new_plain_object_transition}
 use Rattle.instructions.specs.BuiltInTransitions.{enter_transition, exit_transition, write_transition}
 use Rattle.interpreter.specs.declared.outcomes.InstructionOutcome.{InstructionOutcome}
 use Rattle.interpreter.specs.declared.outcomes.InstructionOutcome.TheVariants.{OwnEffect, Starts, Joins}
@@ -49,12 +49,12 @@ abbrev pub CallTransition : Type 0
 CallTransition = Option CallAnswer
 
 -- a transition of frames and objects beside the printed bytes
-abbrev pub beside_console : List ℕ → ObjectTransition → CallTransition
-beside_console console transition = option_map (λ (t : Frames × Objects × Effect). call_answer t.0 t.1 console (OwnEffect t.2)) transition
+abbrev pub with_console : List ℕ → ObjectTransition → CallTransition
+with_console console transition = option_map (λ (t : Frames × Objects × Effect). call_answer t.0 t.1 console (OwnEffect t.2)) transition
 
 -- whether a rule has a result that prints: there are more bytes than there were
-abbrev pub prints : List ℕ → CallTransition → Bool
-prints console transition = option_map_or (λ (t : CallAnswer). nat_lt (length console) (length t.printed)) transition false
+abbrev pub grows_console : List ℕ → CallTransition → Bool
+grows_console console transition = option_map_or (λ (t : CallAnswer). nat_lt (length console) (length t.printed)) transition false
 
 -- ---- built-in members
 
@@ -64,29 +64,29 @@ top_reference (Ref a ∷ rest) = Some a
 top_reference _ = None
 
 -- asks for something of another thread; the operand stays until it is done
-abbrev pub asks : (Addr → InstructionOutcome) → Frames → Objects → List ℕ → CallTransition
-asks what m o console = option_map (λ a. call_answer m o console (what a)) (top_reference m.running.stack)
+abbrev pub request_outcome : (Addr → InstructionOutcome) → Frames → Objects → List ℕ → CallTransition
+request_outcome what m o console = option_map (λ a. call_answer m o console (what a)) (top_reference m.running.stack)
 
 -- what a member without code does
 abbrev pub act_transition : Tree → Mutator → Action → Frames → Objects → List ℕ → CallTransition
-act_transition tree mutator Construct m o console = with_top m (λ v n. beside_console console (beside o (onward n)))
+act_transition tree mutator Construct m o console = with_top m (λ v n. with_console console (with_objects o (onward n)))
 act_transition tree mutator Write m o console = option_map (λ (t : Frames × List ℕ × Effect). call_answer t.0 o t.1 (OwnEffect t.2)) (write_transition (literals_of tree) console m)
-act_transition tree mutator Enter m o console = beside_console console (enter_transition mutator m o)
-act_transition tree mutator Exit m o console = beside_console console (exit_transition mutator m o)
-act_transition tree mutator Start m o console = asks Starts m o console
-act_transition tree mutator Join m o console = asks Joins m o console
+act_transition tree mutator Enter m o console = with_console console (enter_transition mutator m o)
+act_transition tree mutator Exit m o console = with_console console (exit_transition mutator m o)
+act_transition tree mutator Start m o console = request_outcome Starts m o console
+act_transition tree mutator Join m o console = request_outcome Joins m o console
 
 -- ---- calls
 
 -- a method as it is called, under its number
-abbrev pub called_as : ClassName × Method → ℕ → Called
-called_as found n = record { method = n; arguments = length (argument_types found.1 found.0); locals = local_kinds found.1 }
+abbrev pub called_method : ClassName × Method → ℕ → CalledMethod
+called_method found n = record { method = n; arguments = length (argument_types found.1 found.0); locals = local_kinds found.1 }
 
 -- a method that runs: an action of its own, or a frame (III.3.19)
 abbrev pub run_transition : Tree → Mutator → ClassName × Method → Frames → Objects → List ℕ → CallTransition
 run_transition tree mutator found m o console =
     option_map_or (λ a. act_transition tree mutator a m o console) (action_of found.0 found.1)
-    (when_some (number_of tree found) (λ n. beside_console console (beside o (call_transition (called_as found n) m))))
+    (when_some (number_of tree found) (λ n. with_console console (with_objects o (call_transition (called_method found n) m))))
 
 -- the same of the method of a flat number
 abbrev pub call_by_id : Tree → Mutator → ℕ → Frames → Objects → List ℕ → CallTransition
@@ -136,7 +136,7 @@ virtual_by_id tree mutator number operands m o console = when_some (slice_get (a
 abbrev pub make_object : Tree → Mutator → ℕ → ℕ → ClassName × Method → Frames → Objects → ObjectTransition
 make_object tree mutator class slots found m o =
     option_map_or (λ a. new_plain_object_transition mutator.phase class slots m o) (action_of found.0 found.1)
-    (when_some (number_of tree found) (λ n. new_object_transition mutator.phase class slots (called_as found n) m o))
+    (when_some (number_of tree found) (λ n. new_object_transition mutator.phase class slots (called_method found n) m o))
 
 -- the same with the constructor of a flat number
 abbrev pub made_by_id : Tree → Mutator → ℕ → ℕ → ℕ → Frames → Objects → ObjectTransition

@@ -8,7 +8,7 @@ use Rattle.cil_model.specs.declared.trees.Method.{Method}
 use Rattle.cil_model.specs.declared.trees.Tree.{Tree}
 use Rattle.cil_model.specs.Bodies.{lines_of}
 use Rattle.cil_model.specs.ValueKinds.{kind_of_elements}
-use Rattle.resolved_code.specs.Resolved.{IsOperation}
+use Rattle.resolved_code.specs.ResolvedPrograms.{IsOperation}
 use Rattle.resolved_code.specs.declared.operations.Operation.{Operation}
 use Rattle.object_memory.specs.declared.values.Value.{Value}
 use Rattle.object_memory.specs.declared.values.Value.TheVariants.{Int32, Int64, Ref}
@@ -18,7 +18,7 @@ use Rattle.loaded_program.specs.AllMethods.{all_methods}
 use Rattle.loaded_program.specs.declared.instructions.LinkedInstruction.{LinkedInstruction}
 use Rattle.loaded_program.specs.declared.instructions.LinkedInstruction.TheVariants.{NoOperation, LoadInt32, LoadInt64, LoadNull, LoadString, LoadArgument, StoreArgument, LoadLocal, StoreLocal, Duplicate, Pop, Binary, Unary, Shift, Compare, ConvertInt32, ConvertInt64, Branch, Switch, LoadField, StoreField, LoadStaticField, StoreStaticField, NewArray, LoadLength, LoadElement, StoreElement, CastClass, IsInstance, Call, CallVirtual, NewObject, Return}
 use Rattle.loaded_program.specs.Links.{link}
-use Rattle.loaded_program.specs.Loaded.{has_value}
+use Rattle.loaded_program.specs.LoadedPrograms.{has_value}
 pub use Rattle.loaded_program.specs.Operands.{HasSmallConstant}
 use Rattle.threads_monitors.specs.declared.mutators.Mutator.{Mutator}
 use Rattle.threads_monitors.specs.declared.effects.Effect.{Effect}

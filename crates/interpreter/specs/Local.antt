@@ -55,15 +55,15 @@ abbrev pub frames_over : Frame → List Frame → (depth room : ℕ) → Frames
 frames_over f below depth room = record { running = f; below = below; depth = depth; room = room }
 
 -- a frame without others
-abbrev pub alone : ℕ → Frame → Frames
-alone room f = frames_over f [] 1 room
+abbrev pub single_frame : ℕ → Frame → Frames
+single_frame room f = frames_over f [] 1 room
 
 -- A local instruction of a frame is done, and its thread continues: whatever frames lie below, and whatever else the machine holds, this frame alone
 -- changes.
 pub record IsLocalStep (tree : Tree) (room : ℕ) (f g : Frame) : Type 0 where
   pub operation : Operation
-  pub at : IsAt tree (alone room f) operation
-  pub local : is_local tree (alone room f) operation ≡ true
+  pub at : IsAt tree (single_frame room f) operation
+  pub local : is_local tree (single_frame room f) operation ≡ true
   pub done : (below : List Frame) (depth : ℕ) (mutator : Mutator) (o : Objects) (statics : List Value) (printed : List ℕ) →
       IsDone tree mutator (frames_over f below depth room) o statics printed (answer_of (frames_over g below depth room) o statics printed (OwnEffect Continues))
 
@@ -74,7 +74,7 @@ AreLocalSteps tree room (suc n) f g = (next : Frame) × AreLocalSteps tree room 
 
 -- whether the next instruction of the frame is local
 abbrev pub IsNextLocal : Tree → (room : ℕ) → Frame → Bool → Type 0
-IsNextLocal tree room f local = (op : Operation) × IsAt tree (alone room f) op × (is_local tree (alone room f) op ≡ local)
+IsNextLocal tree room f local = (op : Operation) × IsAt tree (single_frame room f) op × (is_local tree (single_frame room f) op ≡ local)
 
 -- it is not
 abbrev pub IsNoLocal : Tree → (room : ℕ) → Frame → Type 0
@@ -83,8 +83,8 @@ IsNoLocal tree room f = IsNextLocal tree room f false
 -- or it is, and raises a fault, whatever else the machine holds
 pub record IsFaultyLocal (tree : Tree) (room : ℕ) (f : Frame) : Type 0 where
   pub operation : Operation
-  pub at : IsAt tree (alone room f) operation
-  pub local : is_local tree (alone room f) operation ≡ true
+  pub at : IsAt tree (single_frame room f) operation
+  pub local : is_local tree (single_frame room f) operation ≡ true
   pub fault : Fault
   pub raises : (below : List Frame) (depth : ℕ) (mutator : Mutator) (o : Objects) (statics : List Value) (printed : List ℕ) →
       (m : Frames) × IsDone tree mutator (frames_over f below depth room) o statics printed (answer_of m o statics printed (OwnEffect (Raises fault)))

@@ -1,8 +1,8 @@
 //! Calls and `newobj`.
 
 ghost use Rattle.std.specs.Prelude.{◌≡◌, IsSome, Some, IfOk, OnErr, true};
-ghost use Rattle.loaded_program.specs.Prepared.{action_named};
-ghost use Rattle.interpreter.specs.Calls.{act_transition, call_answer, call_by_id, class_at, made_by_id, prints, receiver, top_reference, virtual_by_id};
+ghost use Rattle.loaded_program.specs.LocalKinds.{action_named};
+ghost use Rattle.interpreter.specs.Calls.{act_transition, call_answer, call_by_id, class_at, made_by_id, grows_console, receiver, top_reference, virtual_by_id};
 ghost use Rattle.interpreter.specs.Stores.{HoldSame};
 
 use crate::outcomes::InstructionOutcome;
@@ -40,7 +40,7 @@ fn act(
     ensures done { IfOk result (λ outcome. Some (call_answer frames.new store.new.heap store.new.console.items outcome) ≡ act_transition program.now mutator (action_named action) frames.old store.old.heap store.old.console.items) }
     ensures statics { store.new.statics.items ≡ store.old.statics.items }
     ensures refused { OnErr result ((frames.new ≡ frames.old) × HoldSame store.old store.new) }
-    ensures prints { OnErr result (prints store.old.console.items (act_transition program.now mutator (action_named action) frames.old store.old.heap store.old.console.items) ≡ true) }
+    ensures prints { OnErr result (grows_console store.old.console.items (act_transition program.now mutator (action_named action) frames.old store.old.heap store.old.console.items) ≡ true) }
 {
     match action {
         Action::Construct => Ok(InstructionOutcome::OwnEffect(stack::pop(frames))),
@@ -78,7 +78,7 @@ pub(crate) fn run(
     ensures done { IfOk result (λ outcome. Some (call_answer frames.new store.new.heap store.new.console.items outcome) ≡ call_by_id program.now mutator number frames.old store.old.heap store.old.console.items) }
     ensures statics { store.new.statics.items ≡ store.old.statics.items }
     ensures refused { OnErr result ((frames.new ≡ frames.old) × HoldSame store.old store.new) }
-    ensures prints { OnErr result (prints store.old.console.items (call_by_id program.now mutator number frames.old store.old.heap store.old.console.items) ≡ true) }
+    ensures prints { OnErr result (grows_console store.old.console.items (call_by_id program.now mutator number frames.old store.old.heap store.old.console.items) ≡ true) }
 {
     let loaded = program.method(number);
     match loaded.action {
@@ -133,7 +133,7 @@ pub(crate) fn run_virtual(
     ensures done { IfOk result (λ outcome. Some (call_answer frames.new store.new.heap store.new.console.items outcome) ≡ virtual_by_id program.now mutator number operands frames.old store.old.heap store.old.console.items) }
     ensures statics { store.new.statics.items ≡ store.old.statics.items }
     ensures refused { OnErr result ((frames.new ≡ frames.old) × HoldSame store.old store.new) }
-    ensures prints { OnErr result (prints store.old.console.items (virtual_by_id program.now mutator number operands frames.old store.old.heap store.old.console.items) ≡ true) }
+    ensures prints { OnErr result (grows_console store.old.console.items (virtual_by_id program.now mutator number operands frames.old store.old.heap store.old.console.items) ≡ true) }
 {
     let object = receiver(frames, operands);
     if object.is_null() {

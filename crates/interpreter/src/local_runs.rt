@@ -2,7 +2,7 @@
 
 ghost use Rattle.std.specs.Prelude.{◌≡◌, ◌⊎◌, ◌<◌, ◌≤◌, ℕ, List, IsSome, Some, length, slice_get, true, false};
 ghost use Rattle.cil_model.specs.declared.trees.Tree.{Tree};
-ghost use Rattle.loaded_program.specs.Loaded.{IsCode, IsLinkedAt, line_in};
+ghost use Rattle.loaded_program.specs.LoadedPrograms.{IsCode, IsLinkedAt, line_in};
 ghost use Rattle.threads_monitors.specs.Frames.{Frame, with_running};
 ghost use Rattle.threads_monitors.specs.declared.effects.Effect.TheVariants.{Continues};
 ghost use Rattle.instructions.specs.LocalTransitions.{IsFaulty, is_local_branch, is_ordered, is_ordered_branch};

@@ -3,7 +3,7 @@
 ghost use Rattle.std.specs.Prelude.{IfSome};
 ghost use Rattle.legality_explanations.specs.Locations.{IsOfClass};
 
-use crate::breaches::{Breach, Found};
+use crate::rule_evidence::{Evidence, Located};
 use crate::sentences::{write_one, write_two};
 use crate::sites::{Sites, class_key};
 use source_positions::name_tables::ids::ClassId;
@@ -39,7 +39,7 @@ impl fmt::Display for OwnBase<'_> {
     }
 }
 
-impl Breach for OwnBase<'_> {}
+impl Evidence for OwnBase<'_> {}
 
 /// The base of a class, with its name.
 fn base_of<'a>(names: &NameTables<'a>, class: ClassId) -> Option<(ClassId, ClassKey<'a>)> {
@@ -64,7 +64,7 @@ fn write_bases<W: fmt::Write>(f: &mut fmt::Formatter<W>, own_base: &OwnBase) -> 
 }
 
 /// A class that is its own base. None where the tree has no such class.
-pub(crate) fn own_base<'a>(names: &'a NameTables<'a>, class: usize) -> Option<Found<OwnBase<'a>>>
+pub(crate) fn own_base<'a>(names: &'a NameTables<'a>, class: usize) -> Option<Located<OwnBase<'a>>>
     ensures { IfSome result (λ found. IfSome found.1.location (IsOfClass class)) }
 {
     let declared = names.classes.tree.classes.as_slice().get(class)?;

@@ -1,6 +1,6 @@
 //! Names that stand twice (number 201).
 
-use crate::breaches::{Breach, Found};
+use crate::rule_evidence::{Evidence, Located};
 use crate::sentences::{write_one, write_two};
 use crate::sites::{MemberSpot, Sites, class_name, key_of, listed_interface, located_method};
 use metadata::violations;
@@ -61,7 +61,7 @@ impl fmt::Display for Duplicate<'_> {
     }
 }
 
-impl Breach for Duplicate<'_> {
+impl Evidence for Duplicate<'_> {
     fn note(&self) -> &'static str {
         "first declared here"
     }
@@ -88,24 +88,24 @@ fn write_of_class<W: fmt::Write, N: fmt::Display>(
 }
 
 /// A name that occurs twice, at the second of its locations.
-fn found(
+fn located_at(
     duplicates: Duplicate<'_>,
     again: Location,
     first: Location,
-) -> Option<Found<Duplicate<'_>>> {
+) -> Option<Located<Duplicate<'_>>> {
     Some((duplicates, Sites::beside(again, Some(first))))
 }
 
-fn duplicate_extern(tree: &Tree, repeat: Repeat) -> Option<Found<Duplicate<'_>>> {
+fn duplicate_extern(tree: &Tree, repeat: Repeat) -> Option<Located<Duplicate<'_>>> {
     let duplicates = Duplicate::Extern(tree.externs.as_slice().get(repeat.again)?);
     let first = Location::Extern(repeat.first);
-    found(duplicates, Location::Extern(repeat.again), first)
+    located_at(duplicates, Location::Extern(repeat.again), first)
 }
 
-fn duplicate_class(tree: &Tree, repeat: Repeat) -> Option<Found<Duplicate<'_>>> {
+fn duplicate_class(tree: &Tree, repeat: Repeat) -> Option<Located<Duplicate<'_>>> {
     let again = tree.classes.as_slice().get(repeat.again)?;
     let duplicates = Duplicate::Class(&again.name);
-    found(
+    located_at(
         duplicates,
         class_name(repeat.again),
         class_name(repeat.first),
@@ -118,7 +118,7 @@ fn found_in(
     class: usize,
     again: usize,
     first: usize,
-) -> Option<Found<Duplicate<'_>>> {
+) -> Option<Located<Duplicate<'_>>> {
     let again = MemberSpot {
         class,
         member: again,
@@ -127,10 +127,10 @@ fn found_in(
         class,
         member: first,
     };
-    found(duplicates, again.name(), first.name())
+    located_at(duplicates, again.name(), first.name())
 }
 
-fn duplicate_field(tree: &Tree, class: usize, repeat: Repeat) -> Option<Found<Duplicate<'_>>> {
+fn duplicate_field(tree: &Tree, class: usize, repeat: Repeat) -> Option<Located<Duplicate<'_>>> {
     let declared = tree.classes.as_slice().get(class)?;
     let (again, field) = nth_field(declared, repeat.again)?;
     let (first, _) = nth_field(declared, repeat.first)?;
@@ -141,7 +141,7 @@ fn duplicate_field(tree: &Tree, class: usize, repeat: Repeat) -> Option<Found<Du
     found_in(duplicates, class, again, first)
 }
 
-fn duplicate_method(tree: &Tree, class: usize, repeat: Repeat) -> Option<Found<Duplicate<'_>>> {
+fn duplicate_method(tree: &Tree, class: usize, repeat: Repeat) -> Option<Located<Duplicate<'_>>> {
     let declared = tree.classes.as_slice().get(class)?;
     let (again, method) = nth_method(declared, repeat.again)?;
     let (first, _) = nth_method(declared, repeat.first)?;
@@ -157,7 +157,11 @@ fn interface_name(class: usize, entry: usize) -> Location {
     Location::InClass { class, part }
 }
 
-fn duplicate_interface(tree: &Tree, class: usize, repeat: Repeat) -> Option<Found<Duplicate<'_>>> {
+fn duplicate_interface(
+    tree: &Tree,
+    class: usize,
+    repeat: Repeat,
+) -> Option<Located<Duplicate<'_>>> {
     let declared = tree.classes.as_slice().get(class)?;
     let duplicates = Duplicate::Interface {
         class: &declared.name,
@@ -165,7 +169,7 @@ fn duplicate_interface(tree: &Tree, class: usize, repeat: Repeat) -> Option<Foun
     };
     let again = interface_name(class, repeat.again);
     let first = interface_name(class, repeat.first);
-    found(duplicates, again, first)
+    located_at(duplicates, again, first)
 }
 
 /// A label by its index among all labels of a method.
@@ -186,11 +190,11 @@ fn duplicate_label(
     tree: &Tree,
     method: SourceMember,
     repeat: Repeat,
-) -> Option<Found<Duplicate<'_>>> {
+) -> Option<Located<Duplicate<'_>>> {
     let (spot, declared) = located_method(tree, method)?;
     let (label, again) = label_at(spot, declared, repeat.again)?;
     let (_, first) = label_at(spot, declared, repeat.first)?;
-    found(Duplicate::Label(label), again, first)
+    located_at(Duplicate::Label(label), again, first)
 }
 
 /// A name that occurs twice in a class.
@@ -198,7 +202,7 @@ fn duplicate_in_class(
     tree: &Tree,
     class: usize,
     duplicates: DuplicateInClass,
-) -> Option<Found<Duplicate<'_>>> {
+) -> Option<Located<Duplicate<'_>>> {
     match duplicates {
         DuplicateInClass::Fields(fields) => duplicate_field(tree, class, fields),
         DuplicateInClass::Methods(methods) => duplicate_method(tree, class, methods),
@@ -214,7 +218,7 @@ fn duplicate_in_class(
 pub fn duplicate_name(
     tree: &Tree,
     duplicates: violations::Duplicate,
-) -> Option<Found<Duplicate<'_>>> {
+) -> Option<Located<Duplicate<'_>>> {
     match duplicates {
         violations::Duplicate::Externs(externs) => duplicate_extern(tree, externs),
         violations::Duplicate::Classes(classes) => duplicate_class(tree, classes),

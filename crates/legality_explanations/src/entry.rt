@@ -4,7 +4,7 @@ ghost use Rattle.std.specs.Prelude.{◌≡◌, IfSome};
 ghost use Rattle.legality_explanations.specs.Locations.{IsOfClass};
 
 use crate::advice::Advice;
-use crate::breaches::{Breach, Found};
+use crate::rule_evidence::{Evidence, Located};
 use crate::sentences::{write_one, write_two};
 use crate::sites::{Sites, key_of, located_method};
 use metadata::violations;
@@ -57,7 +57,7 @@ fn entry_at(tree: &Tree, method: SourceMember) -> Option<(Location, &Method)>
     Some((spot.part(MemberPart::EntryPoint), declared))
 }
 
-impl Breach for BadEntry<'_> {
+impl Evidence for BadEntry<'_> {
     fn note(&self) -> &'static str {
         "first declared here"
     }
@@ -71,7 +71,7 @@ impl Breach for BadEntry<'_> {
     }
 }
 
-fn found(entry: BadEntry<'_>, sites: Sites) -> Option<Found<BadEntry<'_>>>
+fn located_at(entry: BadEntry<'_>, sites: Sites) -> Option<Located<BadEntry<'_>>>
     ensures { IfSome result (λ found. found.1 ≡ sites) }
 {
     Some((entry, sites))
@@ -81,20 +81,20 @@ fn second_entry(
     tree: &Tree,
     first: SourceMember,
     second: SourceMember,
-) -> Option<Found<BadEntry<'_>>>
+) -> Option<Located<BadEntry<'_>>>
     ensures again { IfSome result (λ found. IfSome found.1.location (IsOfClass second.class)) }
     ensures first { IfSome result (λ found. IfSome found.1.other (IsOfClass first.class)) }
 {
     let (first, _) = entry_at(tree, first)?;
     let (second, _) = entry_at(tree, second)?;
-    found(BadEntry::Second, Sites::beside(second, Some(first)))
+    located_at(BadEntry::Second, Sites::beside(second, Some(first)))
 }
 
 /// An entry point in a method that returns a value.
-fn returning(tree: &Tree, method: SourceMember) -> Option<Found<BadEntry<'_>>> {
+fn entry_that_returns(tree: &Tree, method: SourceMember) -> Option<Located<BadEntry<'_>>> {
     let (location, declared) = entry_at(tree, method)?;
     let returned = declared.signature.return_type.as_ref()?;
-    found(BadEntry::Returns(returned), Sites::at(location))
+    located_at(BadEntry::Returns(returned), Sites::at(location))
 }
 
 /// An entry point in a method that has another fault.
@@ -102,19 +102,19 @@ fn unfit<'a>(
     tree: &'a Tree,
     method: SourceMember,
     fault: &'static str,
-) -> Option<Found<BadEntry<'a>>> {
+) -> Option<Located<BadEntry<'a>>> {
     let (location, declared) = entry_at(tree, method)?;
     let method = key_of(declared);
-    found(BadEntry::Unfit { method, fault }, Sites::at(location))
+    located_at(BadEntry::Unfit { method, fault }, Sites::at(location))
 }
 
 /// Why a source has not one fit entry point. None where the tree has no such location.
-pub(crate) fn bad_entry(tree: &Tree, entry: violations::BadEntry) -> Option<Found<BadEntry<'_>>> {
+pub(crate) fn bad_entry(tree: &Tree, entry: violations::BadEntry) -> Option<Located<BadEntry<'_>>> {
     match entry {
-        violations::BadEntry::Absent => found(BadEntry::Absent, Sites::NONE),
+        violations::BadEntry::Absent => located_at(BadEntry::Absent, Sites::NONE),
         violations::BadEntry::Second { first, second } => second_entry(tree, first, second),
         violations::BadEntry::NotStatic(method) => unfit(tree, method, "is not static"),
-        violations::BadEntry::Returns(method) => returning(tree, method),
+        violations::BadEntry::Returns(method) => entry_that_returns(tree, method),
         violations::BadEntry::Takes(method) => unfit(tree, method, "has parameters"),
     }
 }

@@ -3,7 +3,7 @@
 ghost use Rattle.std.specs.Prelude.{IfSome};
 ghost use Rattle.legality_explanations.specs.Locations.{IsOfClass};
 
-use crate::breaches::{Breach, Found};
+use crate::rule_evidence::{Evidence, Located};
 use crate::sites::{Sites, class_key, listed_interface, method_key, method_location};
 use metadata::violations;
 use source_positions::cil_model::texts::Text;
@@ -43,7 +43,7 @@ impl fmt::Display for NotImplemented<'_> {
     }
 }
 
-impl Breach for NotImplemented<'_> {}
+impl Evidence for NotImplemented<'_> {}
 
 /// The nearest class from one on along its bases with a method of this name and signature.
 fn owner_along<'a>(names: &NameTables<'a>, first: &Class, key: MethodKey) -> Option<ClassKey<'a>> {
@@ -62,7 +62,7 @@ fn owner_along<'a>(names: &NameTables<'a>, first: &Class, key: MethodKey) -> Opt
 pub(crate) fn not_implemented<'a>(
     names: &NameTables<'a>,
     absent: violations::NotImplemented,
-) -> Option<Found<NotImplemented<'a>>>
+) -> Option<Located<NotImplemented<'a>>>
     ensures { IfSome result (λ found. IfSome found.1.location (IsOfClass absent.class)) }
 {
     let violations::NotImplemented { class, listed } = absent;

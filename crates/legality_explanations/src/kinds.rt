@@ -1,6 +1,6 @@
 //! Methods whose kinds do not fit (number 205).
 
-use crate::breaches::{Breach, Found};
+use crate::rule_evidence::{Evidence, Located};
 use crate::sentences::{write_one, write_two};
 use crate::sites::{
     MemberSpot, Sites, class_key, class_name, key_of, method_key, method_location, source_number,
@@ -127,9 +127,9 @@ fn write_left_open<W: fmt::Write>(
     }
 }
 
-impl Breach for KindMismatch<'_> {}
+impl Evidence for KindMismatch<'_> {}
 
-fn found(kind_mismatch: KindMismatch<'_>, sites: Sites) -> Option<Found<KindMismatch<'_>>> {
+fn located_at(kind_mismatch: KindMismatch<'_>, sites: Sites) -> Option<Located<KindMismatch<'_>>> {
     Some((kind_mismatch, sites))
 }
 
@@ -180,7 +180,7 @@ fn described_left_open<'a>(
     owner: ClassId,
     method: MethodKey<'a>,
     nearer: Nearer,
-) -> Option<Found<KindMismatch<'a>>> {
+) -> Option<Located<KindMismatch<'a>>> {
     let number = source_number(names, ClassId::new(nearer.open?))?;
     let kind_mismatch = KindMismatch::LeftOpen {
         class: &names.classes.tree.classes.as_slice().get(number)?.name,
@@ -192,14 +192,14 @@ fn described_left_open<'a>(
         },
     };
     let declared = method_location(names, owner, method);
-    found(kind_mismatch, Sites::beside(class_name(number), declared))
+    located_at(kind_mismatch, Sites::beside(class_name(number), declared))
 }
 
 fn left_open<'a>(
     names: &NameTables<'a>,
     class: &Class,
     open: MethodId,
-) -> Option<Found<KindMismatch<'a>>> {
+) -> Option<Located<KindMismatch<'a>>> {
     let first = names.classes.id(ClassKey::of_source(class))?;
     let owner = open.class;
     let method = method_key(names, open)?;
@@ -217,19 +217,23 @@ fn named_method(
     Some((key_of(method), MemberSpot { class, member }.name()))
 }
 
-fn in_interface(class: usize, declared: &Class, method: usize) -> Option<Found<KindMismatch<'_>>> {
+fn in_interface(
+    class: usize,
+    declared: &Class,
+    method: usize,
+) -> Option<Located<KindMismatch<'_>>> {
     let (method, location) = named_method(class, declared, method)?;
     let interface = &declared.name;
-    found(
+    located_at(
         KindMismatch::InInterface { interface, method },
         Sites::at(location),
     )
 }
 
-fn is_abstract(class: usize, declared: &Class, method: usize) -> Option<Found<KindMismatch<'_>>> {
+fn is_abstract(class: usize, declared: &Class, method: usize) -> Option<Located<KindMismatch<'_>>> {
     let (method, location) = named_method(class, declared, method)?;
     let class = &declared.name;
-    found(
+    located_at(
         KindMismatch::Abstract { class, method },
         Sites::at(location),
     )
@@ -241,7 +245,7 @@ fn over_plain<'a>(
     class: &'a Class,
     named: (MethodKey<'a>, Location),
     base: ClassId,
-) -> Option<Found<KindMismatch<'a>>> {
+) -> Option<Located<KindMismatch<'a>>> {
     let (method, location) = named;
     let kind_mismatch = KindMismatch::OverPlain {
         class: &class.name,
@@ -249,14 +253,14 @@ fn over_plain<'a>(
         owner: class_key(names, base)?,
     };
     let overridden = method_location(names, base, method);
-    found(kind_mismatch, Sites::beside(location, overridden))
+    located_at(kind_mismatch, Sites::beside(location, overridden))
 }
 
 /// A method whose kind does not fit its class or what that inherits. None where the tree has no such location.
 pub(crate) fn kind_mismatch_of<'a>(
     names: &NameTables<'a>,
     kind_mismatch: violations::KindMismatch,
-) -> Option<Found<KindMismatch<'a>>> {
+) -> Option<Located<KindMismatch<'a>>> {
     let violations::KindMismatch { class, fault } = kind_mismatch;
     let declared = names.classes.tree.classes.as_slice().get(class)?;
     match fault {

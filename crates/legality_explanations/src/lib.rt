@@ -4,7 +4,6 @@
 #![tactic(auto)]
 
 mod advice;
-mod breaches;
 mod cycles;
 mod duplicates;
 mod entry;
@@ -13,6 +12,7 @@ mod implemented;
 mod kinds;
 mod limits;
 mod references;
+mod rule_evidence;
 mod rules;
 mod sentences;
 mod sites;

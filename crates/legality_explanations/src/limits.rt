@@ -1,7 +1,7 @@
 //! Limits that are passed (number 207), all of which are this profile's.
 
-use crate::breaches::{Breach, Found};
 use crate::references::{location_of, type_at};
+use crate::rule_evidence::{Evidence, Located};
 use crate::sites::{MemberSpot, Sites, class_name, located_method};
 use metadata::violations;
 use metadata::violations::{MethodLimit, SourceMember, TypeSite};
@@ -123,9 +123,9 @@ impl fmt::Display for Passed<'_> {
     }
 }
 
-impl Breach for Passed<'_> {}
+impl Evidence for Passed<'_> {}
 
-fn found(passed: Passed<'_>, location: Location) -> Option<Found<Passed<'_>>> {
+fn located_at(passed: Passed<'_>, location: Location) -> Option<Located<Passed<'_>>> {
     Some((passed, Sites::at(location)))
 }
 
@@ -142,15 +142,15 @@ fn passed_by_instruction(instruction: &Instruction) -> Option<Passed<'_>> {
     }
 }
 
-fn passed_by_line(spot: MemberSpot, method: &Method, number: usize) -> Option<Found<Passed<'_>>> {
+fn passed_by_line(spot: MemberSpot, method: &Method, number: usize) -> Option<Located<Passed<'_>>> {
     let line = lines_of(method).get(number)?;
     let passed = passed_by_instruction(&line.instruction)?;
-    found(passed, spot.line(number, LinePart::Name))
+    located_at(passed, spot.line(number, LinePart::Name))
 }
 
-fn passed_stack(spot: MemberSpot, method: &Method) -> Option<Found<Passed<'_>>> {
+fn passed_stack(spot: MemberSpot, method: &Method) -> Option<Located<Passed<'_>>> {
     let passed = Passed::MaxStack(code_of(&method.kind)?.max_stack);
-    found(passed, spot.part(MemberPart::MaxStack))
+    located_at(passed, spot.part(MemberPart::MaxStack))
 }
 
 fn count_arguments(method: &Method) -> usize {
@@ -165,19 +165,19 @@ fn passed_by_method(
     spot: MemberSpot,
     method: &Method,
     limit: MethodLimit,
-) -> Option<Found<Passed<'_>>> {
+) -> Option<Located<Passed<'_>>> {
     match limit {
         MethodLimit::Arguments => {
             let passed = Passed::Counted(ARGUMENTS, count_arguments(method));
-            found(passed, spot.name())
+            located_at(passed, spot.name())
         }
         MethodLimit::Instructions => {
             let passed = Passed::Counted(INSTRUCTIONS, lines_of(method).len());
-            found(passed, spot.line(MOST_INSTRUCTIONS, LinePart::Name))
+            located_at(passed, spot.line(MOST_INSTRUCTIONS, LinePart::Name))
         }
         MethodLimit::Locals => {
             let passed = Passed::Counted(LOCALS, locals_of(method).len());
-            found(passed, spot.part(MemberPart::Locals))
+            located_at(passed, spot.part(MemberPart::Locals))
         }
         MethodLimit::MaxStack => passed_stack(spot, method),
         MethodLimit::Line(number) => passed_by_line(spot, method, number),
@@ -187,10 +187,10 @@ fn passed_by_method(
 // ---- the whole tree
 
 /// The first method of the source that is too many.
-fn passed_methods(classes: &[Class]) -> Option<Found<Passed<'_>>> {
+fn passed_methods(classes: &[Class]) -> Option<Located<Passed<'_>>> {
     let MethodPosition { class, member, .. } = method_of_number(classes, MOST_METHODS)?;
     let spot = MemberSpot { class, member };
-    found(Passed::Beyond(METHODS), spot.name())
+    located_at(Passed::Beyond(METHODS), spot.name())
 }
 
 /// The static field of a class at this index among them.
@@ -215,9 +215,9 @@ fn passed_static_fields(
     classes: &[Class],
     class: usize,
     index: usize,
-) -> Option<Found<Passed<'_>>> {
+) -> Option<Located<Passed<'_>>> {
     let spot = static_field_at(class, classes.get(class)?, index)?;
-    found(Passed::Beyond(STATIC_FIELDS), spot.name())
+    located_at(Passed::Beyond(STATIC_FIELDS), spot.name())
 }
 
 /// How many instance fields a class declares.
@@ -248,22 +248,22 @@ fn count_fields(names: &NameTables, class: &Class) -> usize {
     count
 }
 
-fn passed_fields<'a>(names: &NameTables<'a>, class: usize) -> Option<Found<Passed<'a>>> {
+fn passed_fields<'a>(names: &NameTables<'a>, class: usize) -> Option<Located<Passed<'a>>> {
     let declared = names.classes.tree.classes.as_slice().get(class)?;
     let passed = Passed::InstanceFields(&declared.name, count_fields(names, declared));
-    found(passed, class_name(class))
+    located_at(passed, class_name(class))
 }
 
-fn passed_brackets(tree: &Tree, site: TypeSite) -> Option<Found<Passed<'_>>> {
+fn passed_brackets(tree: &Tree, site: TypeSite) -> Option<Located<Passed<'_>>> {
     let passed = Passed::Brackets(type_at(tree, site)?.brackets);
-    found(passed, location_of(tree, site.part)?)
+    located_at(passed, location_of(tree, site.part)?)
 }
 
 fn passed_in_method(
     tree: &Tree,
     method: SourceMember,
     limit: MethodLimit,
-) -> Option<Found<Passed<'_>>> {
+) -> Option<Located<Passed<'_>>> {
     let (spot, declared) = located_method(tree, method)?;
     passed_by_method(spot, declared, limit)
 }
@@ -272,13 +272,13 @@ fn passed_in_method(
 pub(crate) fn passed_limit<'a>(
     names: &NameTables<'a>,
     passed: violations::Passed,
-) -> Option<Found<Passed<'a>>> {
+) -> Option<Located<Passed<'a>>> {
     let tree = names.classes.tree;
     let classes = tree.classes.as_slice();
     match passed {
         violations::Passed::Classes => {
             let passed = Passed::Counted(CLASSES, classes.len());
-            found(passed, class_name(MOST_CLASSES))
+            located_at(passed, class_name(MOST_CLASSES))
         }
         violations::Passed::Methods => passed_methods(classes),
         violations::Passed::StaticFields { class, index } => {

@@ -1,12 +1,12 @@
 //! Why a tree is no legal program (numbers 201 to 207).
 
-use crate::breaches::{Breach, Found};
 use crate::cycles::own_base;
 use crate::duplicates::duplicate_name;
 use crate::entry::bad_entry;
 use crate::implemented::not_implemented;
 use crate::kinds::kind_mismatch_of;
 use crate::limits::passed_limit;
+use crate::rule_evidence::{Evidence, Located};
 use crate::unknown::unknown_name;
 use metadata::violations::Violation;
 use source_positions::cil_model::memory::NoMemory;
@@ -20,28 +20,28 @@ fn offset_at(text: &[u8], location: Option<Location>) -> Option<usize> {
     offset_of(text, location?)
 }
 
-/// The sentence of a breach at its location.
-fn sentence_at<B: Breach>(
+/// The sentence of what breaks a rule, at its location.
+fn sentence_at<B: Evidence>(
     alloc: Global,
     named: Named,
-    breach: &B,
+    evidence: &B,
     location: Option<Location>,
 ) -> Result<String, NoMemory> {
     let offset = offset_at(named.text, location);
-    let sentence = breach.to_string(alloc)?;
+    let sentence = evidence.to_string(alloc)?;
     named.message(alloc, offset, sentence.as_str())
 }
 
-/// Adds what is at the location with which a breach does not agree, if there is one.
-fn push_note<B: Breach>(
+/// Adds what is at the location with which what breaks a rule does not agree, if there is one.
+fn push_note<B: Evidence>(
     message: &mut String,
     named: Named,
-    breach: &B,
+    evidence: &B,
     other: Option<Location>,
 ) -> Result<(), NoMemory> {
     match offset_at(named.text, other) {
         None => Ok(()),
-        offset => named.push_where(message, offset, breach.note()),
+        offset => named.push_where(message, offset, evidence.note()),
     }
 }
 
@@ -55,16 +55,16 @@ struct Explanation<'a> {
 
 impl Explanation<'_> {
     /// What was found of the rule that is broken, in words; the rule's own sentence where nothing was.
-    fn of_breach<B: Breach + Copy + Drop>(
+    fn of_evidence<B: Evidence + Copy + Drop>(
         &self,
-        found: Option<Found<B>>,
+        found: Option<Located<B>>,
     ) -> Result<String, NoMemory> {
-        let Some((breach, sites)) = found else {
+        let Some((evidence, sites)) = found else {
             return rule_text(self.alloc, self.named, self.violation);
         };
-        let mut message = sentence_at(self.alloc, self.named, &breach, sites.location)?;
-        push_note(&mut message, self.named, &breach, sites.other)?;
-        if let Some(advice) = breach.advice() {
+        let mut message = sentence_at(self.alloc, self.named, &evidence, sites.location)?;
+        push_note(&mut message, self.named, &evidence, sites.other)?;
+        if let Some(advice) = evidence.advice() {
             writeln!(message, "help: {advice}")?;
         }
         Ok(message)
@@ -73,8 +73,8 @@ impl Explanation<'_> {
     /// What was found of a rule that is broken, by the names of the tree where it needs them.
     fn of_violation(&self, tree: &Tree) -> Result<String, NoMemory> {
         match self.violation {
-            Violation::Duplicate(duplicates) => self.of_breach(duplicate_name(tree, duplicates)),
-            Violation::BadEntry(entry) => self.of_breach(bad_entry(tree, entry)),
+            Violation::Duplicate(duplicates) => self.of_evidence(duplicate_name(tree, duplicates)),
+            Violation::BadEntry(entry) => self.of_evidence(bad_entry(tree, entry)),
             _ => {
                 let table = BuiltInClass::all(self.alloc)?;
                 let names = NameTables::new(self.alloc, tree, table.as_slice())?;
@@ -85,14 +85,14 @@ impl Explanation<'_> {
 
     fn by_names(&self, names: &NameTables) -> Result<String, NoMemory> {
         match self.violation {
-            Violation::Unknown(unknown) => self.of_breach(unknown_name(names, unknown)),
-            Violation::OwnBase { class } => self.of_breach(own_base(names, class)),
-            Violation::NotImplemented(absent) => self.of_breach(not_implemented(names, absent)),
-            Violation::KindMismatch(kind_mismatch) => self.of_breach(kind_mismatch_of(
+            Violation::Unknown(unknown) => self.of_evidence(unknown_name(names, unknown)),
+            Violation::OwnBase { class } => self.of_evidence(own_base(names, class)),
+            Violation::NotImplemented(absent) => self.of_evidence(not_implemented(names, absent)),
+            Violation::KindMismatch(kind_mismatch) => self.of_evidence(kind_mismatch_of(
                 names,
                 kind_mismatch,
             )),
-            Violation::Passed(passed) => self.of_breach(passed_limit(names, passed)),
+            Violation::Passed(passed) => self.of_evidence(passed_limit(names, passed)),
             _ => rule_text(self.alloc, self.named, self.violation),
         }
     }

@@ -1,8 +1,8 @@
 //! Names that denote nothing of the kind needed (number 202).
 
 use crate::advice::{Advice, advice_on};
-use crate::breaches::{Breach, Found};
 use crate::references::{MemberKey, class_of, class_position, line_at, member_of, type_at};
+use crate::rule_evidence::{Evidence, Located};
 use crate::sentences::write_two;
 use crate::sites::{Sites, key_of, listed_interface, located_method};
 use metadata::mentions::labels_of;
@@ -63,7 +63,7 @@ pub enum Unknown<'a> {
     },
 }
 
-fn found(unknown: Unknown<'_>, location: Location) -> Option<Found<Unknown<'_>>> {
+fn located_at(unknown: Unknown<'_>, location: Location) -> Option<Located<Unknown<'_>>> {
     Some((unknown, Sites::at(location)))
 }
 
@@ -109,7 +109,7 @@ impl fmt::Display for Unknown<'_> {
     }
 }
 
-impl Breach for Unknown<'_> {
+impl Evidence for Unknown<'_> {
     fn advice(&self) -> Option<Advice<'_>> {
         advice_on(self)
     }
@@ -306,7 +306,7 @@ fn unknown_in_heading(
     number: usize,
     name: HeadingName,
     fault: ClassFault,
-) -> Option<Found<Unknown<'_>>> {
+) -> Option<Located<Unknown<'_>>> {
     let (class, role) = named_in_heading(tree.classes.as_slice().get(number)?, name)?;
     let part = match name {
         HeadingName::Base => ClassPart::Base,
@@ -316,13 +316,13 @@ fn unknown_in_heading(
         class: number,
         part,
     };
-    found(unknown_class(tree, class, role, fault), location)
+    located_at(unknown_class(tree, class, role, fault), location)
 }
 
-fn unknown_in_type(tree: &Tree, site: TypeSite, fault: ClassFault) -> Option<Found<Unknown<'_>>> {
+fn unknown_in_type(tree: &Tree, site: TypeSite, fault: ClassFault) -> Option<Located<Unknown<'_>>> {
     let class = class_of(type_at(tree, site)?)?;
     let location = class_position(tree, site)?;
-    found(unknown_class(tree, class, Role::Type, fault), location)
+    located_at(unknown_class(tree, class, Role::Type, fault), location)
 }
 
 // ---- instructions
@@ -438,22 +438,22 @@ fn unknown_owner(
     method: SourceMember,
     line: usize,
     fault: ClassFault,
-) -> Option<Found<Unknown<'_>>> {
+) -> Option<Located<Unknown<'_>>> {
     let (spot, instruction) = line_at(tree, method, line)?;
     let (owner, _) = member_of(instruction)?;
     let unknown = unknown_class(tree, ClassKey::of(owner), Role::Owner, fault);
-    found(unknown, spot.line(line, LinePart::Owner))
+    located_at(unknown, spot.line(line, LinePart::Owner))
 }
 
 fn unknown_member<'a>(
     names: &NameTables<'a>,
     method: SourceMember,
     line: usize,
-) -> Option<Found<Unknown<'a>>> {
+) -> Option<Located<Unknown<'a>>> {
     let (spot, instruction) = line_at(names.classes.tree, method, line)?;
     let (owner, member) = member_of(instruction)?;
     let unknown = absent_member(names, ClassKey::of(owner), member);
-    found(unknown, spot.line(line, LinePart::Member))
+    located_at(unknown, spot.line(line, LinePart::Member))
 }
 
 /// The label of a method that has this name but for letter case.
@@ -473,27 +473,27 @@ fn unknown_label(
     method: SourceMember,
     line: usize,
     target: usize,
-) -> Option<Found<Unknown<'_>>> {
+) -> Option<Located<Unknown<'_>>> {
     let (spot, instruction) = line_at(tree, method, line)?;
     let label = labels_of(instruction).get(target)?;
     let location = spot.line(line, LinePart::Target(target));
     let (_, declared) = located_method(tree, method)?;
     let near = near_label(lines_of(declared), label);
-    found(Unknown::Label { label, near }, location)
+    located_at(Unknown::Label { label, near }, location)
 }
 
 // ---- the whole tree
 
-fn unknown_extern(tree: &Tree, number: usize) -> Option<Found<Unknown<'_>>> {
+fn unknown_extern(tree: &Tree, number: usize) -> Option<Located<Unknown<'_>>> {
     let name = tree.externs.as_slice().get(number)?;
-    found(Unknown::Extern(name), Location::Extern(number))
+    located_at(Unknown::Extern(name), Location::Extern(number))
 }
 
 /// A name that denotes nothing of the kind needed (number 202), and its location. None where the tree has no such location.
 pub fn unknown_name<'a>(
     names: &NameTables<'a>,
     unknown: violations::Unknown,
-) -> Option<Found<Unknown<'a>>> {
+) -> Option<Located<Unknown<'a>>> {
     let tree = names.classes.tree;
     match unknown {
         violations::Unknown::Extern(number) => unknown_extern(tree, number),

@@ -10,7 +10,7 @@ use Rattle.cil_model.specs.declared.trees.Class.{Class}
 use Rattle.cil_model.specs.Declarations.{Declaration, built_ins, source_name, method_members}
 use Rattle.cil_model.specs.Legality.{IsLegal}
 use Rattle.name_tables.specs.Numbers.{source_entry}
-use Rattle.resolved_code.specs.Resolved.{AllAlike, IsResolvedMethod, IsResolvedClass}
+use Rattle.resolved_code.specs.ResolvedPrograms.{AllAlike, IsResolvedMethod, IsResolvedClass}
 use Rattle.resolved_code.specs.declared.classes.ResolvedClass.{ResolvedClass}
 use Rattle.resolved_code.proofs.ListLaws.RelatedLists.{alike_length}
 use Rattle.resolved_code.proofs.LegalPrograms.Limits.{source_methods_few}

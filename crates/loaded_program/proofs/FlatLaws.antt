@@ -12,7 +12,7 @@ use Rattle.cil_model.specs.Declarations.{Declaration}
 use Rattle.name_tables.specs.declared.ids.MethodId.{MethodId}
 use Rattle.name_tables.specs.Numbers.{declarations, method_at}
 use Rattle.name_tables.proofs.NumberLaws.{none_is_some}
-use Rattle.resolved_code.specs.Resolved.{AllAlike}
+use Rattle.resolved_code.specs.ResolvedPrograms.{AllAlike}
 use Rattle.loaded_program.specs.AllMethods.{owned_methods, all_methods, flat_number, first_numbers, id_among, method_id}
 use Rattle.cil_model.proofs.Lists.{get_after, get_before}
 

@@ -10,7 +10,7 @@ use Rattle.cil_model.specs.declared.values.ValueKind.{ValueKind}
 use Rattle.object_memory.specs.Cells.{literal}
 use Rattle.loaded_program.specs.declared.instructions.LinkedInstruction.{LinkedInstruction}
 use Rattle.loaded_program.specs.declared.instructions.LinkedInstruction.TheVariants as Linked
-use Rattle.loaded_program.specs.Operands.{slot_at, held_at, class_in, slots_at}
+use Rattle.loaded_program.specs.Operands.{slot_at, field_kind_at, class_in, slots_at}
 use Rattle.loaded_program.specs.Links.{field_link, new_link, number_at}
 use Rattle.loaded_program.proofs.OperandLaws.{then_some, map_some, if_some, below}
 
@@ -28,10 +28,10 @@ mapped_is make o x required known e =
     let there = map_some make o required e in
     ap make (known there.0 there.1) ∙ there.2
 
-pub field_is : (tree : Tree) (n : FieldId) (slot : ℕ) (kind : ValueKind) (required : LinkedInstruction) → Known (slot_at tree n) slot → Known (held_at tree n) kind → field_link tree n ≡ Some required → Linked.LoadField slot kind ≡ required
+pub field_is : (tree : Tree) (n : FieldId) (slot : ℕ) (kind : ValueKind) (required : LinkedInstruction) → Known (slot_at tree n) slot → Known (field_kind_at tree n) kind → field_link tree n ≡ Some required → Linked.LoadField slot kind ≡ required
 field_is tree n slot kind required slot_known kind_known e =
-    let first = then_some (λ slot. option_map (λ kind. Linked.LoadField slot kind) (held_at tree n)) (slot_at tree n) required e in
-    ap (λ x. Linked.LoadField x kind) (slot_known first.0 first.1) ∙ mapped_is (λ x. Linked.LoadField first.0 x) (held_at tree n) kind required kind_known first.2
+    let first = then_some (λ slot. option_map (λ kind. Linked.LoadField slot kind) (field_kind_at tree n)) (slot_at tree n) required e in
+    ap (λ x. Linked.LoadField x kind) (slot_known first.0 first.1) ∙ mapped_is (λ x. Linked.LoadField first.0 x) (field_kind_at tree n) kind required kind_known first.2
 
 pub new_is : (tree : Tree) (n : MethodId) (class slots number : ℕ) (required : LinkedInstruction) → Known (class_in n) class → Known (slots_at tree n) slots → Known (number_at tree n) number → new_link tree n ≡ Some required
     → Linked.NewObject class slots number ≡ required

@@ -10,14 +10,14 @@ use Rattle.cil_model.specs.declared.trees.MethodKind.TheVariants as NamedKind
 use Rattle.cil_model.specs.declared.trees.Code.{Code}
 use Rattle.cil_model.specs.Bodies.{code_of, lines_of}
 use Rattle.std.specs.Option.{option_map_or}
-use Rattle.resolved_code.specs.Resolved.{AllAlike, IsOperation, IsResolvedKind}
+use Rattle.resolved_code.specs.ResolvedPrograms.{AllAlike, IsOperation, IsResolvedKind}
 use Rattle.resolved_code.specs.declared.classes.ResolvedKind.{ResolvedKind}
 use Rattle.resolved_code.specs.declared.classes.ResolvedKind.TheVariants as KindOf
 use Rattle.resolved_code.specs.declared.operations.Operation.{Operation}
 use Rattle.loaded_program.specs.declared.instructions.LinkedInstruction.{LinkedInstruction}
 use Rattle.std.proofs.lemmas.Option.{same_Some, slice_get_within}
 use Rattle.loaded_program.specs.AllMethods.{all_methods}
-use Rattle.loaded_program.specs.Loaded.{IsCode, IsLinkedAt, IsLinkedOperation, IsLinkedLine, chosen_by, has_value, line_in, operations_of, target_in}
+use Rattle.loaded_program.specs.LoadedPrograms.{IsCode, IsLinkedAt, IsLinkedOperation, IsLinkedLine, chosen_by, has_value, line_in, operations_of, target_in}
 use Rattle.loaded_program.proofs.OperandLaws.{then_some}
 
 -- the item of the second list at an index of the first

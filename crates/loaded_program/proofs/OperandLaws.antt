@@ -9,7 +9,7 @@ use Rattle.cil_model.specs.Fields.{instance_slot, static_slot, slot_types}
 use Rattle.name_tables.specs.declared.ids.FieldId.{FieldId}
 use Rattle.name_tables.specs.declared.ids.MethodId.{MethodId}
 use Rattle.name_tables.specs.Numbers.{field_at, method_at}
-use Rattle.resolved_code.specs.Resolved.{BothAlike}
+use Rattle.resolved_code.specs.ResolvedPrograms.{BothAlike}
 use Rattle.resolved_code.specs.ById.{class_name}
 use Rattle.loaded_program.specs.AllMethods.{flat_number}
 use Rattle.loaded_program.specs.Operands.{small, key_at, slot_in, slot_at, static_in, static_at, slots_at}

@@ -16,7 +16,7 @@ use Rattle.cil_model.specs.Assignable.{type_of_class}
 use Rattle.cil_model.specs.Declarations.{Declaration}
 use Rattle.cil_model.specs.ValueKinds.{kind_of_type}
 use Rattle.resolved_code.specs.ById.{type_at, types_named, AreTypes}
-use Rattle.resolved_code.specs.Resolved.{AllAlike, IsBody, IsResolvedKind, IsResolvedMethod, IsResolvedClass}
+use Rattle.resolved_code.specs.ResolvedPrograms.{AllAlike, IsBody, IsResolvedKind, IsResolvedMethod, IsResolvedClass}
 use Rattle.resolved_code.specs.declared.types.ResolvedType.{ResolvedType}
 use Rattle.resolved_code.specs.declared.classes.Body.{Body}
 use Rattle.resolved_code.specs.declared.classes.ResolvedKind.{ResolvedKind}
@@ -25,7 +25,7 @@ use Rattle.resolved_code.specs.declared.classes.ResolvedMethod.{ResolvedMethod}
 use Rattle.resolved_code.specs.declared.classes.ResolvedClass.{ResolvedClass}
 use Rattle.loaded_program.specs.AllMethods.{first_numbers}
 use Rattle.loaded_program.specs.ResolvedKinds.{resolved_locals, with_object, operand_count, running_counts}
-use Rattle.loaded_program.specs.Prepared.{local_kinds}
+use Rattle.loaded_program.specs.LocalKinds.{local_kinds}
 use Rattle.resolved_code.proofs.ListLaws.RelatedLists.{alike_length}
 use Rattle.resolved_code.proofs.Numbers.Types.{types_are_named}
 

@@ -6,8 +6,8 @@ pub use Rattle.class_layout.specs as class_layout
 pub use Rattle.object_memory.specs as object_memory
 pub mod AllMethods
 pub mod ResolvedKinds
-pub mod Prepared
+pub mod LocalKinds
 pub mod MethodNumbers
 pub mod Operands
 pub mod Links
-pub mod Loaded
+pub mod LoadedPrograms

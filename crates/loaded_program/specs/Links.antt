@@ -14,7 +14,7 @@ use Rattle.object_memory.specs.Cells.{literal}
 use Rattle.loaded_program.specs.AllMethods.{flat_number}
 use Rattle.loaded_program.specs.declared.instructions.LinkedInstruction.{LinkedInstruction}
 use Rattle.loaded_program.specs.declared.instructions.LinkedInstruction.TheVariants as Linked
-use Rattle.loaded_program.specs.Operands.{slot_at, static_at, held_at, array_held, class_in, slots_at}
+use Rattle.loaded_program.specs.Operands.{slot_at, static_at, field_kind_at, linked_array, class_in, slots_at}
 
 -- the flat number of a member, where it is a method
 abbrev pub number_at : Tree → MethodId → Option ℕ
@@ -30,7 +30,7 @@ new_link tree n = option_and_then (λ class. option_and_then (λ slots. option_m
 
 -- a field's slot and what it holds (III.4.10)
 abbrev pub field_link : Tree → FieldId → Option LinkedInstruction
-field_link tree n = option_and_then (λ slot. option_map (λ kind. Linked.LoadField slot kind) (held_at tree n)) (slot_at tree n)
+field_link tree n = option_and_then (λ slot. option_map (λ kind. Linked.LoadField slot kind) (field_kind_at tree n)) (slot_at tree n)
 
 -- a resolved instruction of a method that returns a value or none, linked (III.3, III.4). None where an operand represents nothing
 abbrev pub link : Tree → Bool → Operation → Option LinkedInstruction
@@ -57,7 +57,7 @@ link tree has_value (Resolved.LoadField owner field) = field_link tree field
 link tree has_value (Resolved.StoreField owner field) = option_map (λ slot. Linked.StoreField slot) (slot_at tree field)
 link tree has_value (Resolved.LoadStaticField field) = option_map (λ number. Linked.LoadStaticField number) (static_at tree field)
 link tree has_value (Resolved.StoreStaticField field) = option_map (λ number. Linked.StoreStaticField number) (static_at tree field)
-link tree has_value (Resolved.NewArray t) = option_map (λ element. Linked.NewArray element) (array_held t)
+link tree has_value (Resolved.NewArray t) = option_map (λ element. Linked.NewArray element) (linked_array t)
 link tree has_value Resolved.LoadLength = Some Linked.LoadLength
 link tree has_value (Resolved.LoadElement kind) = Some (Linked.LoadElement kind)
 link tree has_value (Resolved.StoreElement kind) = Some (Linked.StoreElement kind)

@@ -50,19 +50,19 @@ abbrev pub static_at : Tree → FieldId → Option ℕ
 static_at tree n = option_and_then (static_in tree) (field_at tree (n.class, n.index))
 
 -- what a field holds
-abbrev pub held_at : Tree → FieldId → Option ValueKind
-held_at tree n = option_map (λ (found : ClassName × Field). kind_of_type found.1.field_type) (field_at tree (n.class, n.index))
+abbrev pub field_kind_at : Tree → FieldId → Option ValueKind
+field_kind_at tree n = option_map (λ (found : ClassName × Field). kind_of_type found.1.field_type) (field_at tree (n.class, n.index))
 
 -- what an array of these elements is made by: a class's number of 16 bits, and few brackets
-abbrev pub element_held : ResolvedElement → Option ElementType
-element_held ResolvedInt32 = Some HeldInt32
-element_held ResolvedInt64 = Some HeldInt64
-element_held ResolvedObject = Some HeldObject
-element_held ResolvedString = Some HeldString
-element_held (ClassById n) = if nat_lt n (2 ^ 16) then Some (HeldClass n) else None
+abbrev pub linked_element : ResolvedElement → Option ElementType
+linked_element ResolvedInt32 = Some HeldInt32
+linked_element ResolvedInt64 = Some HeldInt64
+linked_element ResolvedObject = Some HeldObject
+linked_element ResolvedString = Some HeldString
+linked_element (ClassById n) = if nat_lt n (2 ^ 16) then Some (HeldClass n) else None
 
-abbrev pub array_held : ResolvedType → Option ArrayElement
-array_held t = if nat_lt t.brackets 256 then option_map (λ e. record { element = e; brackets = t.brackets }) (element_held t.element) else None
+abbrev pub linked_array : ResolvedType → Option ArrayElement
+linked_array t = if nat_lt t.brackets 256 then option_map (λ e. record { element = e; brackets = t.brackets }) (linked_element t.element) else None
 
 -- the number of a member's class, of 16 bits
 abbrev pub class_in : MethodId → Option ℕ

@@ -6,7 +6,7 @@ ghost use Rattle.cil_model.specs.declared.trees.Method.{Method};
 ghost use Rattle.cil_model.specs.declared.trees.Tree.{Tree};
 ghost use Rattle.name_tables.specs.Numbers.{method_at};
 ghost use Rattle.reference_machine.specs.BuiltIn.{action_of};
-ghost use Rattle.loaded_program.specs.Prepared.{action_named};
+ghost use Rattle.loaded_program.specs.LocalKinds.{action_named};
 ghost use Rattle.name_tables.specs.declared.ids.TheConstants.{MONITOR_NUMBER, THREAD_NUMBER};
 
 use name_tables::ids::{CONSOLE, MONITOR, MethodId, OBJECT, THREAD};

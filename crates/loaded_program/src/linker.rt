@@ -8,9 +8,9 @@ ghost use Rattle.cil_model.specs.Bodies.{argument_types};
 ghost use Rattle.cil_model.specs.declared.values.ValueKind.{ValueKind as AnyKind};
 ghost use Rattle.name_tables.specs.Numbers.{method_at};
 ghost use Rattle.loaded_program.specs.declared.instructions.LinkedInstruction.{LinkedInstruction as AnyLinked};
-ghost use Rattle.loaded_program.specs.Operands.{HasSmallConstant, held_at, slot_at, slots_at, static_at};
+ghost use Rattle.loaded_program.specs.Operands.{HasSmallConstant, field_kind_at, slot_at, slots_at, static_at};
 ghost use Rattle.loaded_program.specs.Links.{IsLinked, number_at, virtual_link};
-ghost use Rattle.loaded_program.specs.Loaded.{CanLink};
+ghost use Rattle.loaded_program.specs.LoadedPrograms.{CanLink};
 
 use crate::instructions::LinkedInstruction;
 use crate::methods::argument_count;
@@ -78,7 +78,7 @@ impl Linker<'_> {
 
     /// What a field holds. Any where there is no such field.
     fn kind(&self, field: FieldId) -> ValueKind
-        ensures { (kind : AnyKind) → held_at self.now.program.now field ≡ Some kind → result ≡ kind }
+        ensures { (kind : AnyKind) → field_kind_at self.now.program.now field ≡ Some kind → result ≡ kind }
     {
         match self.program.field(field) {
             Some(field) => field.field_type.kind(),

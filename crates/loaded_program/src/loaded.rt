@@ -6,10 +6,10 @@ ghost use Rattle.cil_model.specs.declared.types.ClassName.{ClassName};
 ghost use Rattle.cil_model.specs.Slots.{target};
 ghost use Rattle.name_tables.specs.Numbers.{method_at};
 ghost use Rattle.resolved_code.specs.ById.{class_name};
-ghost use Rattle.class_layout.specs.Laid.{IsLayout};
+ghost use Rattle.class_layout.specs.Layouts.{IsLayout};
 ghost use Rattle.loaded_program.specs.AllMethods.{all_methods, method_id};
 ghost use Rattle.loaded_program.specs.MethodNumbers.{number_of};
-ghost use Rattle.loaded_program.specs.Loaded.{IsCode, IsLinkedAt, IsLoadedMethod, line_in, target_in};
+ghost use Rattle.loaded_program.specs.LoadedPrograms.{IsCode, IsLinkedAt, IsLoadedMethod, line_in, target_in};
 
 use crate::instructions::LinkedInstruction;
 use crate::loaded_methods::LoadedMethod;

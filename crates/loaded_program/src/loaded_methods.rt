@@ -5,9 +5,9 @@ ghost use Rattle.cil_model.specs.Declarations.{Declaration};
 ghost use Rattle.cil_model.specs.declared.trees.Method.{Method};
 ghost use Rattle.cil_model.specs.declared.types.ClassName.{ClassName};
 ghost use Rattle.name_tables.specs.Numbers.{declarations, method_at};
-ghost use Rattle.resolved_code.specs.Resolved.{AllAlike, IsResolvedMethod};
+ghost use Rattle.resolved_code.specs.ResolvedPrograms.{AllAlike, IsResolvedMethod};
 ghost use Rattle.loaded_program.specs.AllMethods.{all_methods, owned_methods};
-ghost use Rattle.loaded_program.specs.Loaded.{CanLink, IsLinkedOperation, IsLoadedMethod, operations_of};
+ghost use Rattle.loaded_program.specs.LoadedPrograms.{CanLink, IsLinkedOperation, IsLoadedMethod, operations_of};
 
 use crate::actions::{Action, action_at};
 use crate::instructions::LinkedInstruction;

@@ -61,7 +61,7 @@ fn first_at(first: &[u32], class: ClassId) -> Option<u32>
 }
 
 impl MethodNumbers {
-    ghost use Rattle.loaded_program.specs.Loaded.{AreMethodNumbers};
+    ghost use Rattle.loaded_program.specs.LoadedPrograms.{AreMethodNumbers};
 
     /// The numbers of a program's methods. The only error is out of memory.
     pub fn new(alloc: Global, program: &Program) -> Result<Self, NoMemory>

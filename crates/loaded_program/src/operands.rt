@@ -6,7 +6,7 @@ ghost use Rattle.object_memory.specs.declared.addresses.TheConstants.{FIRST_LITE
 ghost use Rattle.object_memory.specs.declared.kinds.ArrayElement.{ArrayElement as AnyElement};
 ghost use Rattle.object_memory.specs.declared.kinds.ElementType.{ElementType as AnyType};
 ghost use Rattle.object_memory.specs.Cells.{literal};
-ghost use Rattle.loaded_program.specs.Operands.{array_held, class_in, element_held};
+ghost use Rattle.loaded_program.specs.Operands.{linked_array, class_in, linked_element};
 
 use name_tables::ids::MethodId;
 use object_memory::{Addr, ArrayElement, ElementType};
@@ -66,7 +66,7 @@ pub(crate) fn literal_address(number: usize) -> Addr
 
 /// What an array of these elements is made by. Any where the number of a class has more than 16 bits.
 fn element_type(element: ResolvedElement) -> ElementType
-    ensures { (held : AnyType) → element_held element ≡ Some held → result ≡ held }
+    ensures { (held : AnyType) → linked_element element ≡ Some held → result ≡ held }
 {
     match element {
         ResolvedElement::Int32 => ElementType::Int32,
@@ -79,7 +79,7 @@ fn element_type(element: ResolvedElement) -> ElementType
 
 /// What an array of these is made by. Any where the number of a class or of brackets is too large.
 pub(crate) fn array_element(held: ResolvedType) -> ArrayElement
-    ensures { (required : AnyElement) → array_held held ≡ Some required → result ≡ required }
+    ensures { (required : AnyElement) → linked_array held ≡ Some required → result ≡ required }
 {
     ArrayElement {
         element: element_type(held.element),

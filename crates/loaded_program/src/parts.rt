@@ -4,11 +4,11 @@ ghost use Rattle.std.specs.Prelude.{◌≡◌, ◌<◌, Some, length, IsSome, If
 ghost use Rattle.cil_model.specs.declared.trees.Method.{Method};
 ghost use Rattle.cil_model.specs.declared.types.ClassName.{ClassName};
 ghost use Rattle.name_tables.specs.Numbers.{method_at};
-ghost use Rattle.class_layout.specs.Laid.{IsLayout};
-ghost use Rattle.resolved_code.specs.Resolved.{AllAlike};
+ghost use Rattle.class_layout.specs.Layouts.{IsLayout};
+ghost use Rattle.resolved_code.specs.ResolvedPrograms.{AllAlike};
 ghost use Rattle.loaded_program.specs.AllMethods.{all_methods, method_id};
 ghost use Rattle.loaded_program.specs.MethodNumbers.{number_of};
-ghost use Rattle.loaded_program.specs.Loaded.{AreMethodNumbers, IsLoadedMethod};
+ghost use Rattle.loaded_program.specs.LoadedPrograms.{AreMethodNumbers, IsLoadedMethod};
 
 use crate::linker::Linker;
 use crate::loaded_methods::{LoadedMethod, all_methods};
@@ -43,7 +43,7 @@ impl Drop for Parts {
 /// Contracts see the tree of the program.
 impl Model for Parts {
     ghost use Rattle.cil_model.specs.declared.trees.Tree.{Tree};
-    ghost use Rattle.loaded_program.specs.Loaded.{IsLoaded};
+    ghost use Rattle.loaded_program.specs.LoadedPrograms.{IsLoaded};
 
     ghost Value = { Tree };
 

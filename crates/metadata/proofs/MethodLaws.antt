@@ -11,7 +11,7 @@ use Rattle.cil_model.specs.declared.trees.Method.{Method}
 use Rattle.cil_model.specs.Declarations.{Declaration}
 use Rattle.cil_model.specs.Chains.{longest_chain, is_virtual, is_abstract_method, listed_by, methods_declared}
 use Rattle.inheritance.specs.Lines.{base_in, line_within, Ends}
-use Rattle.inheritance.specs.Marked.{is_marked}
+use Rattle.inheritance.specs.MarkedDeclarations.{is_marked}
 use Rattle.inheritance.proofs.LineLaws.{line_of_none, line_step, line_of_base}
 use Rattle.name_tables.specs.declared.ids.MethodId.{MethodId}
 use Rattle.name_tables.specs.Members.{base_numbers}
@@ -23,9 +23,9 @@ use Rattle.name_tables.proofs.FirstIndices.{is_some-position_from}
 use Rattle.cil_model.proofs.Lists.{find_passes}
 use Rattle.name_tables.proofs.NumberLaws.{found_none, found_some, found_at_index}
 use Rattle.resolved_code.proofs.Numbers.Classes.{FoundAt, found_at}
-use Rattle.resolved_code.specs.VirtualSlots.{is_virtual_found, is_override, top_open, hidden_open, concrete_by_id}
+use Rattle.resolved_code.specs.VirtualSlots.{is_virtual_found, is_override, is_nearest_abstract, hides_abstract, concrete_by_id}
 use Rattle.resolved_code.proofs.ListLaws.Tests.{and_false}
-use Rattle.metadata.specs.Open.{hides_one, AreClear}
+use Rattle.metadata.specs.OpenSlots.{hides_one, AreClear}
 
 not_both : true ≡ false → ⊥
 not_both e = cc
@@ -154,7 +154,7 @@ module _ (tree : Tree) (k : MethodIdentity) where
   plain_tested [] = refl
   plain_tested (n ∷ ns) = ap (option_map_or (λ (m : Method). not (is_virtual m.kind)) (method_found tree k n)) (plain_tested ns)
 
-  pub top_tested : (ns : List ℕ) → top_open tree k ns ≡ nearest_passes (λ (m : Method). is_abstract_method m.kind) ns
+  pub top_tested : (ns : List ℕ) → is_nearest_abstract tree k ns ≡ nearest_passes (λ (m : Method). is_abstract_method m.kind) ns
   top_tested [] = refl
   top_tested (n ∷ ns) = ap (option_map_or (λ (m : Method). is_abstract_method m.kind) (method_found tree k n)) (top_tested ns)
 
@@ -211,26 +211,26 @@ module _ (tree : Tree) (k : MethodIdentity) where
 
   -- ---- hidden methods
 
-  pub clear_nowhere : hidden_open tree k (line_of tree None) ≡ false
-  clear_nowhere = ap (hidden_open tree k) (line_of_none (base_numbers tree) (longest_chain tree))
+  pub clear_nowhere : hides_abstract tree k (line_of tree None) ≡ false
+  clear_nowhere = ap (hides_abstract tree k) (line_of_none (base_numbers tree) (longest_chain tree))
 
-  pub stays_clear : (class : ℕ) (e : ClassName × Declaration) → slice_get (declarations tree) class ≡ Some e → Ends (base_numbers tree) (longest_chain tree) class → hidden_open tree k (line_of tree (base_in (base_numbers tree) class)) ≡ false →
-      list_any (hides_one tree (line_of tree (base_in (base_numbers tree) class))) e.1.methods ≡ false → hidden_open tree k (line_of tree (Some class)) ≡ false
-  stays_clear class e entry ends clear none = ap (hidden_open tree k) step ∙ by_found (method_found tree k class) refl
+  pub stays_clear : (class : ℕ) (e : ClassName × Declaration) → slice_get (declarations tree) class ≡ Some e → Ends (base_numbers tree) (longest_chain tree) class → hides_abstract tree k (line_of tree (base_in (base_numbers tree) class)) ≡ false →
+      list_any (hides_one tree (line_of tree (base_in (base_numbers tree) class))) e.1.methods ≡ false → hides_abstract tree k (line_of tree (Some class)) ≡ false
+  stays_clear class e entry ends clear none = ap (hides_abstract tree k) step ∙ by_found (method_found tree k class) refl
     where
       step : line_of tree (Some class) ≡ class ∷ line_of tree (base_in (base_numbers tree) class)
       step = line_step (base_numbers tree) (longest_chain tree) class (omega arith) ∙ ap (λ ns. class ∷ ns) (line_of_base (base_numbers tree) (longest_chain tree) class (omega arith) ends)
 
       by_found : (o : Option Method) → method_found tree k class ≡ o →
-          option_map_or (λ (m : Method). hidden_open tree k (line_of tree (base_in (base_numbers tree) class)) || (not (is_override m) && top_open tree k (line_of tree (base_in (base_numbers tree) class)))) o (hidden_open tree k (line_of tree (base_in (base_numbers tree) class))) ≡ false
+          option_map_or (λ (m : Method). hides_abstract tree k (line_of tree (base_in (base_numbers tree) class)) || (not (is_override m) && is_nearest_abstract tree k (line_of tree (base_in (base_numbers tree) class)))) o (hides_abstract tree k (line_of tree (base_in (base_numbers tree) class))) ≡ false
       by_found None h = clear
       by_found (Some m) h =
           let found : find is_it e.1.methods ≡ Some m = sym (ap (option_and_then (λ (x : ClassName × Declaration). find is_it x.1.methods)) entry) ∙ h in
           let own : k ≡ identity_of m = same_identity_equal k (identity_of m) (find_passes is_it e.1.methods m found) in
           let fails : hides_one tree (line_of tree (base_in (base_numbers tree) class)) m ≡ false = found_fails is_it (hides_one tree (line_of tree (base_in (base_numbers tree) class))) e.1.methods m found none in
-          or_from _ _ clear (ap (λ x. not (is_override m) && top_open tree x (line_of tree (base_in (base_numbers tree) class))) own ∙ fails)
+          or_from _ _ clear (ap (λ x. not (is_override m) && is_nearest_abstract tree x (line_of tree (base_in (base_numbers tree) class))) own ∙ fails)
 
   -- of a class of which it is known, or none
-  pub clear_from : (may_hide : List Bool) → AreClear tree may_hide → (base : Option ℕ) → ((n : ℕ) → base ≡ Some n → slice_get may_hide n ≡ Some false) → hidden_open tree k (line_of tree base) ≡ false
+  pub clear_from : (may_hide : List Bool) → AreClear tree may_hide → (base : Option ℕ) → ((n : ℕ) → base ≡ Some n → slice_get may_hide n ≡ Some false) → hides_abstract tree k (line_of tree base) ≡ false
   clear_from may_hide clear None h = clear_nowhere
   clear_from may_hide clear (Some n) h = clear n k (h n refl)

@@ -11,7 +11,7 @@ use Rattle.cil_model.specs.Declarations.{Declaration}
 use Rattle.cil_model.specs.Chains.{is_virtual, is_new_slot_method, is_abstract_method}
 use Rattle.name_tables.specs.Sameness.{MethodIdentity, identity_of}
 use Rattle.name_tables.specs.Numbers.{declarations, chain_numbers, method_found}
-use Rattle.resolved_code.specs.VirtualSlots.{slot_filled_at, slot_by_id, open_by_id, is_left_open, class_leaves_open, is_override, top_open, hidden_open, stays_open, IsDecided}
+use Rattle.resolved_code.specs.VirtualSlots.{slot_filled_at, slot_by_id, abstract_by_id, is_slot_abstract, class_has_abstract_slot, is_override, is_nearest_abstract, hides_abstract, stays_abstract, IsDecided}
 use Rattle.resolved_code.proofs.ListLaws.Tests.{and_false}
 
 abbrev is_abstract : Method → Bool
@@ -65,37 +65,37 @@ module _ (tree : Tree) where
     over_found n (Some m) s o hidden top rest p q = over_method n m s o hidden top rest q (option_map_or (λ x. x == slot) (slot_filled_at n s m) false) refl p
 
     -- where none is hidden, the nearest is abstract, and fills the slot
-    shown : (ns : List ℕ) → open_by_id tree k slot ns ≡ true → hidden_open tree k ns ≡ false → (top_open tree k ns ≡ true) × (slot_by_id tree k ns ≡ Some slot)
+    shown : (ns : List ℕ) → abstract_by_id tree k slot ns ≡ true → hides_abstract tree k ns ≡ false → (is_nearest_abstract tree k ns ≡ true) × (slot_by_id tree k ns ≡ Some slot)
     shown [] p q = absurd (not_both (sym p))
-    shown (n ∷ ns) p q = over_found n (method_found tree k n) (slot_by_id tree k ns) (open_by_id tree k slot ns) (hidden_open tree k ns) (top_open tree k ns) (shown ns) p q
+    shown (n ∷ ns) p q = over_found n (method_found tree k n) (slot_by_id tree k ns) (abstract_by_id tree k slot ns) (hides_abstract tree k ns) (is_nearest_abstract tree k ns) (shown ns) p q
 
-    open_stays : (ns : List ℕ) → open_by_id tree k slot ns ≡ true → stays_open tree k ns ≡ true
-    open_stays ns p = by_hidden (hidden_open tree k ns) refl
+    open_stays : (ns : List ℕ) → abstract_by_id tree k slot ns ≡ true → stays_abstract tree k ns ≡ true
+    open_stays ns p = by_hidden (hides_abstract tree k ns) refl
       where
-        by_hidden : (b : Bool) → hidden_open tree k ns ≡ b → b || top_open tree k ns ≡ true
+        by_hidden : (b : Bool) → hides_abstract tree k ns ≡ b → b || is_nearest_abstract tree k ns ≡ true
         by_hidden true e = refl
         by_hidden false e = (shown ns p e).0
 
   -- ---- whole chains
 
-  never_left : (k : MethodIdentity) (chain ms : List ℕ) → IsDecided tree chain → is_left_open tree k chain ms ≡ false
+  never_left : (k : MethodIdentity) (chain ms : List ℕ) → IsDecided tree chain → is_slot_abstract tree k chain ms ≡ false
   never_left k chain ms h = by_slot (slot_by_id tree k ms)
     where
-      by_open : (slot : ℕ) (b : Bool) → open_by_id tree k slot chain ≡ b → open_by_id tree k slot chain ≡ false
+      by_open : (slot : ℕ) (b : Bool) → abstract_by_id tree k slot chain ≡ b → abstract_by_id tree k slot chain ≡ false
       by_open slot false e = e
       by_open slot true e = absurd (not_both (sym (open_stays k slot chain e) ∙ h k))
 
-      by_slot : (o : Option ℕ) → option_map_or (λ slot. open_by_id tree k slot chain) o false ≡ false
+      by_slot : (o : Option ℕ) → option_map_or (λ slot. abstract_by_id tree k slot chain) o false ≡ false
       by_slot None = refl
-      by_slot (Some slot) = by_open slot (open_by_id tree k slot chain) refl
+      by_slot (Some slot) = by_open slot (abstract_by_id tree k slot chain) refl
 
-  class_leaves_none : (chain : List ℕ) → IsDecided tree chain → (n : ℕ) → class_leaves_open tree chain n ≡ false
+  class_leaves_none : (chain : List ℕ) → IsDecided tree chain → (n : ℕ) → class_has_abstract_slot tree chain n ≡ false
   class_leaves_none chain h n = by_entry (slice_get (declarations tree) n)
     where
-      by_entry : (o : Option (ClassName × Declaration)) → option_map_or (λ (e : ClassName × Declaration). list_any (λ (m : Method). is_virtual m.kind && is_left_open tree (identity_of m) chain (chain_numbers tree e.0)) e.1.methods) o false ≡ false
+      by_entry : (o : Option (ClassName × Declaration)) → option_map_or (λ (e : ClassName × Declaration). list_any (λ (m : Method). is_virtual m.kind && is_slot_abstract tree (identity_of m) chain (chain_numbers tree e.0)) e.1.methods) o false ≡ false
       by_entry None = refl
       by_entry (Some e) =
-          none_passes (λ (m : Method). is_virtual m.kind && is_left_open tree (identity_of m) chain (chain_numbers tree e.0)) (λ m. ap (λ b. is_virtual m.kind && b) (never_left (identity_of m) chain (chain_numbers tree e.0) h) ∙ and_false (is_virtual m.kind)) e.1.methods
+          none_passes (λ (m : Method). is_virtual m.kind && is_slot_abstract tree (identity_of m) chain (chain_numbers tree e.0)) (λ m. ap (λ b. is_virtual m.kind && b) (never_left (identity_of m) chain (chain_numbers tree e.0) h) ∙ and_false (is_virtual m.kind)) e.1.methods
 
-  pub none_left_open : (chain ms : List ℕ) → IsDecided tree chain → list_any (class_leaves_open tree chain) ms ≡ false
-  none_left_open chain ms h = none_passes (class_leaves_open tree chain) (class_leaves_none chain h) ms
+  pub none_left_open : (chain ms : List ℕ) → IsDecided tree chain → list_any (class_has_abstract_slot tree chain) ms ≡ false
+  none_left_open chain ms h = none_passes (class_has_abstract_slot tree chain) (class_leaves_none chain h) ms

@@ -18,7 +18,7 @@ use Rattle.cil_model.specs.Mentions.{bases_named, class_of_element, owners_of_in
 use Rattle.cil_model.specs.Legality.{labels_before, is_known_extern, is_resolved, is_source_interface, is_possible_base, is_possible_type, class_finds, finds_member, finds_labels, lacks_name}
 use Rattle.name_tables.proofs.Lists.{option_map_of_map}
 use Rattle.name_tables.proofs.FirstIndices.{is_some-position_from}
-use Rattle.metadata.specs.Named.{knows_names}
+use Rattle.metadata.specs.NameChecks.{knows_names}
 use Rattle.resolved_code.proofs.ListLaws.Tests.{first_fails, second_fails, third_fails, last_two_decide, and_false, and_comm, list_all_congr, list_any-flat_map, list_all_both}
 use Rattle.cil_model.proofs.Lists.{list_all-flat_map, list_all-filter_map}
 
@@ -152,15 +152,15 @@ module _ (tree : Tree) where
 -- ---- labels
 
 -- a label is before some line
-pub placed : (m : Method) (label : List ℕ) → list_any (same_text label) (labels_before m) ≡ is_some (pc_of label (lines_of m))
-placed m label = list_any-flat_map (same_text label) (λ (l : Line). l.labels) (lines_of m) ∙ sym (is_some-position_from (λ (l : Line). list_any (same_text label) l.labels) 0 (lines_of m))
+pub label_is_found : (m : Method) (label : List ℕ) → list_any (same_text label) (labels_before m) ≡ is_some (pc_of label (lines_of m))
+label_is_found m label = list_any-flat_map (same_text label) (λ (l : Line). l.labels) (lines_of m) ∙ sym (is_some-position_from (λ (l : Line). list_any (same_text label) l.labels) 0 (lines_of m))
 
 abbrev pub are_labels : List (List ℕ) → Instruction → Bool
 are_labels labels i = list_all (λ w. list_any (same_text w) labels) (labels_of i)
 
 pub labels_found : (m : Method) → list_all (λ (l : Line). are_labels (labels_before m) l.instruction) (lines_of m) ≡ finds_labels m
 labels_found m =
-    list_all_congr (λ (l : Line). are_labels (labels_before m) l.instruction) (λ (l : Line). list_all (λ w. is_some (pc_of w (lines_of m))) (labels_of l.instruction)) (λ l. list_all_congr _ _ (placed m) (labels_of l.instruction)) (lines_of m) ∙
+    list_all_congr (λ (l : Line). are_labels (labels_before m) l.instruction) (λ (l : Line). list_all (λ w. is_some (pc_of w (lines_of m))) (labels_of l.instruction)) (λ l. list_all_congr _ _ (label_is_found m) (labels_of l.instruction)) (lines_of m) ∙
     sym (list_all-map (λ i. list_all (λ w. is_some (pc_of w (lines_of m))) (labels_of i)) (λ (l : Line). l.instruction) (lines_of m))
 
 -- what the lines of a method name

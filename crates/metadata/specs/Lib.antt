@@ -1,5 +1,5 @@
-pub mod Named
+pub mod NameChecks
 pub mod Counts
-pub mod Open
-pub mod Implemented
+pub mod OpenSlots
+pub mod InterfaceTables
 pub mod RuleNumbers

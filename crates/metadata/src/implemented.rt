@@ -4,7 +4,7 @@ ghost use Rattle.std.specs.Prelude.{◌≡◌, IfOk, Some, is_none, is_some, map
 ghost use Rattle.std.specs.List.{list_any, list_all};
 ghost use Rattle.cil_model.specs.Chains.{methods_declared};
 ghost use Rattle.cil_model.specs.Legality.{implements_all, lacks_implementation};
-ghost use Rattle.metadata.specs.Implemented.{has_all, AreTables};
+ghost use Rattle.metadata.specs.InterfaceTables.{has_all_methods, AreTables};
 ghost use Rattle.resolved_code.specs.VirtualSlots.{is_virtual_found};
 ghost use Rattle.name_tables.specs.Keys.{method_of_key};
 ghost use Rattle.name_tables.specs.Methods.{line_of, methods_at};
@@ -90,7 +90,7 @@ fn absent_by_name(
     class: &Option<ClassId>,
     interface: ClassId,
 ) -> Option<usize>
-    ensures { is_none result ≡ has_all methods.now.names.now.classes.tree.now class.now interface }
+    ensures { is_none result ≡ has_all_methods methods.now.names.now.classes.tree.now class.now interface }
 {
     match methods.names.classes.class(interface) {
         None => None,
@@ -100,7 +100,7 @@ fn absent_by_name(
 
 /// The same; only where the class's bases do not end are the methods looked up by name.
 fn absent_at(methods: &MethodTables, class: &Option<ClassId>, interface: ClassId) -> Option<usize>
-    ensures { is_none result ≡ has_all methods.now.names.now.classes.tree.now class.now interface }
+    ensures { is_none result ≡ has_all_methods methods.now.names.now.classes.tree.now class.now interface }
 {
     let Some(first) = class else {
         return absent_by_name(methods, class, interface);
@@ -119,7 +119,7 @@ fn absent_from(
     interface: ClassId,
 ) -> Option<usize>
     requires { AreTables methods.now.names.now.classes.tree.now tables.now }
-    ensures { is_none result ≡ has_all methods.now.names.now.classes.tree.now class.now interface }
+    ensures { is_none result ≡ has_all_methods methods.now.names.now.classes.tree.now class.now interface }
 {
     match class {
         Some(first) if is_reported(tables, *first, interface) => None,

@@ -6,7 +6,7 @@ ghost use Rattle.std.specs.Option.{option_map_or};
 ghost use Rattle.cil_model.specs.Chains.{base_of, is_virtual, is_abstract_method};
 ghost use Rattle.cil_model.specs.Declarations.{source_name};
 ghost use Rattle.cil_model.specs.Legality.{is_interface_method, has_abstract_slot, overrides_no_virtual, kinds_fit, has_kind_mismatch};
-ghost use Rattle.resolved_code.specs.VirtualSlots.{slot_filled_at, slot_over, slot_by_id, open_over, open_by_id, is_left_open, method_leaves_open, class_leaves_open, concrete_by_id};
+ghost use Rattle.resolved_code.specs.VirtualSlots.{slot_filled_at, slot_from_base, slot_by_id, abstract_from_base, abstract_by_id, is_slot_abstract, method_slot_is_abstract, class_has_abstract_slot, concrete_by_id};
 ghost use Rattle.name_tables.specs.Keys.{class_of_key, method_of_key};
 ghost use Rattle.name_tables.specs.Methods.{line_of};
 ghost use Rattle.name_tables.specs.Numbers.{class_number, method_found};
@@ -41,13 +41,13 @@ fn slot_filled(class: ClassId, inherited: Option<ClassId>, method: &Method) -> O
 }
 
 /// The slot of this name and signature as seen from a class, where it is known as seen from its base.
-fn slot_over(
+fn slot_from_base(
     names: &NameTables,
     key: MethodKey,
     class: ClassId,
     inherited: Option<ClassId>,
 ) -> Option<ClassId>
-    ensures { result ≡ slot_over names.now.classes.tree.now (method_of_key key.entry) class inherited }
+    ensures { result ≡ slot_from_base names.now.classes.tree.now (method_of_key key.entry) class inherited }
 {
     match names.classes.method(class, key) {
         None => inherited,
@@ -61,7 +61,7 @@ fn slot_along(names: &NameTables, key: MethodKey, chain: &[ClassId]) -> Option<C
 {
     let mut slot = None;
     for index in (0..chain.len()).rev() {
-        slot = slot_over(names, key, chain[index], slot);
+        slot = slot_from_base(names, key, chain[index], slot);
     }
     slot
 }
@@ -77,8 +77,14 @@ fn is_slot(slot: &Option<ClassId>, required: ClassId) -> bool
 
 /// Whether an abstract method fills a slot as seen from a class, where it is known as seen from its base. `fills` says
 /// whether the class's method of the slot's name and signature fills that very slot.
-fn open_over(names: &NameTables, key: MethodKey, class: ClassId, fills: bool, is_open: bool) -> bool
-    ensures { result ≡ open_over names.now.classes.tree.now (method_of_key key.entry) class fills is_open }
+fn abstract_from_base(
+    names: &NameTables,
+    key: MethodKey,
+    class: ClassId,
+    fills: bool,
+    is_open: bool,
+) -> bool
+    ensures { result ≡ abstract_from_base names.now.classes.tree.now (method_of_key key.entry) class fills is_open }
 {
     if !fills {
         return is_open;
@@ -91,25 +97,25 @@ fn open_over(names: &NameTables, key: MethodKey, class: ClassId, fills: bool, is
 
 /// Whether the nearest method along a chain that fills a slot is abstract.
 fn is_open(names: &NameTables, key: MethodKey, chain: &[ClassId], required: ClassId) -> bool
-    ensures { result ≡ open_by_id names.now.classes.tree.now (method_of_key key.entry) required chain.now }
+    ensures { result ≡ abstract_by_id names.now.classes.tree.now (method_of_key key.entry) required chain.now }
 {
     let mut slot = None;
     let mut is_open = false;
     for index in (0..chain.len()).rev() {
-        slot = slot_over(names, key, chain[index], slot);
-        is_open = open_over(names, key, chain[index], is_slot(&slot, required), is_open);
+        slot = slot_from_base(names, key, chain[index], slot);
+        is_open = abstract_from_base(names, key, chain[index], is_slot(&slot, required), is_open);
     }
     is_open
 }
 
 /// Whether a slot that is known along one chain is filled by an abstract method along another.
-fn is_left_open(
+fn is_slot_abstract(
     names: &NameTables,
     key: MethodKey,
     chain: &[ClassId],
     introduced: &[ClassId],
 ) -> bool
-    ensures { result ≡ is_left_open names.now.classes.tree.now (method_of_key key.entry) chain.now introduced.now }
+    ensures { result ≡ is_slot_abstract names.now.classes.tree.now (method_of_key key.entry) chain.now introduced.now }
 {
     match slot_along(names, key, introduced) {
         None => false,
@@ -117,19 +123,19 @@ fn is_left_open(
     }
 }
 
-fn method_leaves_open(
+fn method_slot_is_abstract(
     names: &NameTables,
     chain: &[ClassId],
     introduced: &[ClassId],
     method: &Method,
 ) -> bool
-    ensures { result ≡ method_leaves_open names.now.classes.tree.now chain.now introduced.now method.now }
+    ensures { result ≡ method_slot_is_abstract names.now.classes.tree.now chain.now introduced.now method.now }
 {
     if !is_virtual(&method.kind) {
         return false;
     }
     let key = MethodKey::new(&method.name, &method.signature);
-    is_left_open(names, key, chain, introduced)
+    is_slot_abstract(names, key, chain, introduced)
 }
 
 /// The first of a class's methods whose slot is filled by an abstract method along a chain.
@@ -139,10 +145,10 @@ fn method_left_open(
     introduced: &[ClassId],
     methods: &[&Method],
 ) -> Option<usize>
-    ensures { is_some result ≡ list_any (method_leaves_open names.now.classes.tree.now chain.now introduced.now) (map (λ m. m.now) methods.now) }
+    ensures { is_some result ≡ list_any (method_slot_is_abstract names.now.classes.tree.now chain.now introduced.now) (map (λ m. m.now) methods.now) }
 {
     for (index, method) in methods.iter().enumerate() {
-        if method_leaves_open(names, chain, introduced, method) {
+        if method_slot_is_abstract(names, chain, introduced, method) {
             return Some(index);
         }
     }
@@ -156,7 +162,7 @@ fn left_open_by(
     chain: &[ClassId],
     class: ClassId,
 ) -> Result<Option<MethodId>, NoMemory>
-    ensures { IfOk result (λ found. is_some found ≡ class_leaves_open names.now.classes.tree.now chain.now class) }
+    ensures { IfOk result (λ found. is_some found ≡ class_has_abstract_slot names.now.classes.tree.now chain.now class) }
 {
     let Some(declared) = names.classes.class(class) else {
         return Ok(None);
@@ -176,7 +182,7 @@ fn first_left_open(
     chain: &[ClassId],
     classes: &[ClassId],
 ) -> Result<Option<MethodId>, NoMemory>
-    ensures { IfOk result (λ found. is_some found ≡ list_any (class_leaves_open names.now.classes.tree.now chain.now) classes.now) }
+    ensures { IfOk result (λ found. is_some found ≡ list_any (class_has_abstract_slot names.now.classes.tree.now chain.now) classes.now) }
 {
     for class in classes {
         if let Some(open) = left_open_by(alloc, names, chain, *class)? {
@@ -194,7 +200,7 @@ fn left_open_in(
     chain: &[ClassId],
     class: ClassId,
 ) -> Result<Option<MethodId>, NoMemory>
-    ensures { IfOk result (λ found. is_some found ≡ true → list_any (class_leaves_open names.now.classes.tree.now chain.now) chain.now ≡ true) }
+    ensures { IfOk result (λ found. is_some found ≡ true → list_any (class_has_abstract_slot names.now.classes.tree.now chain.now) chain.now ≡ true) }
 {
     for along in chain {
         if *along == class {
@@ -210,7 +216,7 @@ fn open_suspect(
     slots: &OpenSlots,
     chain: &[ClassId],
 ) -> Result<Option<MethodId>, NoMemory>
-    ensures { IfOk result (λ found. is_some found ≡ true → list_any (class_leaves_open slots.now.methods.now.names.now.classes.tree.now chain.now) chain.now ≡ true) }
+    ensures { IfOk result (λ found. is_some found ≡ true → list_any (class_has_abstract_slot slots.now.methods.now.names.now.classes.tree.now chain.now) chain.now ≡ true) }
 {
     match slots.suspect(chain) {
         None => Ok(None),
@@ -224,7 +230,7 @@ fn open_along(
     slots: &OpenSlots,
     chain: &[ClassId],
 ) -> Result<Option<MethodId>, NoMemory>
-    ensures { IfOk result (λ found. is_some found ≡ list_any (class_leaves_open slots.now.methods.now.names.now.classes.tree.now chain.now) chain.now) }
+    ensures { IfOk result (λ found. is_some found ≡ list_any (class_has_abstract_slot slots.now.methods.now.names.now.classes.tree.now chain.now) chain.now) }
 {
     if let Some(open) = open_suspect(alloc, slots, chain)? {
         return Ok(Some(open));
@@ -238,7 +244,7 @@ fn slot_left_open(
     slots: &OpenSlots,
     class: ClassId,
 ) -> Result<Option<MethodId>, NoMemory>
-    ensures { IfOk result (λ found. is_some found ≡ list_any (class_leaves_open slots.now.methods.now.names.now.classes.tree.now (line_of slots.now.methods.now.names.now.classes.tree.now (Some class))) (line_of slots.now.methods.now.names.now.classes.tree.now (Some class))) }
+    ensures { IfOk result (λ found. is_some found ≡ list_any (class_has_abstract_slot slots.now.methods.now.names.now.classes.tree.now (line_of slots.now.methods.now.names.now.classes.tree.now (Some class))) (line_of slots.now.methods.now.names.now.classes.tree.now (Some class))) }
 {
     let names = slots.methods.names;
     let line = names.line(alloc, class)?;

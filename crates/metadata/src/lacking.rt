@@ -1,7 +1,7 @@
 //! The classes that lack a method of an interface, found for all classes at once where many list it.
 
 ghost use Rattle.std.specs.Prelude.{◌≡◌, IfOk, Some, true, false, slice_get};
-ghost use Rattle.metadata.specs.Implemented.{IsTable, IsReported, AreTables};
+ghost use Rattle.metadata.specs.InterfaceTables.{IsTable, IsReported, AreTables};
 
 use crate::duplicates::interfaces_named;
 use cil_model::memory::NoMemory;

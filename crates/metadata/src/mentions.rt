@@ -31,7 +31,7 @@ pub struct NamedTypes<'a> {
 }
 
 impl<'a> NamedTypes<'a> {
-    ghost use Rattle.metadata.specs.Named.{types_named};
+    ghost use Rattle.metadata.specs.NameChecks.{types_named};
 
     fn none() -> Self
         ensures { types_named result ≡ [] }

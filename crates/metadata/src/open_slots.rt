@@ -8,8 +8,8 @@ ghost use Rattle.name_tables.specs.Keys.{method_of_key};
 ghost use Rattle.name_tables.specs.Methods.{line_of};
 ghost use Rattle.name_tables.specs.Numbers.{method_found};
 ghost use Rattle.name_tables.specs.Sameness.{MethodIdentity};
-ghost use Rattle.resolved_code.specs.VirtualSlots.{top_open, hidden_open, is_override, IsDecided};
-ghost use Rattle.metadata.specs.Open.{marks_in, hides_one, AreClear, AreDecided};
+ghost use Rattle.resolved_code.specs.VirtualSlots.{is_nearest_abstract, hides_abstract, is_override, IsDecided};
+ghost use Rattle.metadata.specs.OpenSlots.{marks_in, hides_one, AreClear, AreDecided};
 
 use cil_model::memory::NoMemory;
 use cil_model::trees::Method;
@@ -80,7 +80,7 @@ fn is_abstract_found(names: &NameTables, key: MethodKey, found: Option<MethodId>
 
 /// Whether the nearest method of this name and signature, from a class on, may be abstract.
 fn may_be_top(methods: &MethodTables, class: &Option<ClassId>, key: MethodKey) -> bool
-    ensures { result ≡ false → top_open methods.now.names.now.classes.tree.now (method_of_key key.entry) (line_of methods.now.names.now.classes.tree.now class.now) ≡ false }
+    ensures { result ≡ false → is_nearest_abstract methods.now.names.now.classes.tree.now (method_of_key key.entry) (line_of methods.now.names.now.classes.tree.now class.now) ≡ false }
 {
     let Some(class) = class else {
         return false;
@@ -129,7 +129,7 @@ fn is_clear(may_hide: &[bool], class: &Option<ClassId>) -> bool
 /// Whether a class hides no abstract method along its bases, where that is known of its base.
 fn stays_clear(methods: &MethodTables, may_hide: &[bool], class: ClassId) -> bool
     requires { AreClear methods.now.names.now.classes.tree.now may_hide.now }
-    ensures { result ≡ true → (k : MethodIdentity) → hidden_open methods.now.names.now.classes.tree.now k (line_of methods.now.names.now.classes.tree.now (Some class)) ≡ false }
+    ensures { result ≡ true → (k : MethodIdentity) → hides_abstract methods.now.names.now.classes.tree.now k (line_of methods.now.names.now.classes.tree.now (Some class)) ≡ false }
 {
     let names = methods.names;
     let base = names.base(class);

@@ -9,7 +9,7 @@ ghost use Rattle.cil_model.specs.Chains.{find_field, find_method};
 ghost use Rattle.cil_model.specs.Declarations.{source_class, is_interface_kind, interfaces_named, method_members};
 ghost use Rattle.cil_model.specs.Mentions.{bases_named, class_of_element, owners_of_instruction, class_types_of_tree};
 ghost use Rattle.cil_model.specs.Legality.{is_known_extern, is_resolved, is_source_class, is_source_interface, is_possible_base, is_possible_type, class_finds, finds_member, lacks_name};
-ghost use Rattle.metadata.specs.Named.{knows_names};
+ghost use Rattle.metadata.specs.NameChecks.{knows_names};
 ghost use Rattle.name_tables.specs.Keys.{text_of_key};
 
 use crate::duplicates::interfaces_named;
@@ -272,7 +272,7 @@ fn unknown_among_types(names: &NameTables, types: &[SitedType]) -> Option<Unknow
 
 // ---- labels
 
-fn is_placed<'a>(labels: &KeyIndices<TextKey<'a>>, label: &'a Text) -> bool
+fn has_label<'a>(labels: &KeyIndices<TextKey<'a>>, label: &'a Text) -> bool
     ensures { result ≡ list_any (same_text label.now) (map text_of_key labels.now) }
 {
     labels.first(TextKey { text: label }).is_some()
@@ -283,7 +283,7 @@ fn missing_label<'a>(labels: &KeyIndices<TextKey<'a>>, required: &'a [Text]) -> 
     ensures { is_none result ≡ list_all (λ w. list_any (same_text w) (map text_of_key labels.now)) required.now }
 {
     for (target, label) in required.iter().enumerate() {
-        if !is_placed(labels, label) {
+        if !has_label(labels, label) {
             return Some(target);
         }
     }

@@ -9,7 +9,7 @@ use Rattle.std.proofs.lemmas.List.Folds.{list_any-append}
 use Rattle.std.proofs.lemmas.Option.{none-some}
 use Rattle.cil_model.specs.Legality.{has_repeat}
 use Rattle.name_tables.specs.FirstIndices.{AreFirst, with_first}
-use Rattle.name_tables.specs.Inherited.{number_in}
+use Rattle.name_tables.specs.KeyIds.{number_in}
 use Rattle.name_tables.proofs.Lists.{take_one_more, map-take_more}
 
 -- an index is found exactly where some item passes

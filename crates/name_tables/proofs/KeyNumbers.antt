@@ -11,7 +11,7 @@ use Rattle.std.proofs.lemmas.Option.{none-some, slice_get_within}
 use Rattle.cil_model.proofs.SameLaws.{both_first, both_second}
 use Rattle.cil_model.proofs.Lists.{find_passes}
 use Rattle.inheritance.specs.Lines.{index_in}
-use Rattle.name_tables.specs.Inherited.{number_in, HaveIds}
+use Rattle.name_tables.specs.KeyIds.{number_in, HaveIds}
 use Rattle.name_tables.proofs.FirstIndices.{is_some-position_from, position_from-congr}
 use Rattle.name_tables.proofs.NumberLaws.{none_is_some, position_from-map, found_at_index}
 

@@ -12,7 +12,7 @@ use Rattle.cil_model.specs.Chains.{longest_chain}
 use Rattle.inheritance.specs.declared.forests.Forest.{Forest}
 use Rattle.inheritance.specs.Lines as lines
 use Rattle.inheritance.specs.ScopedTables.{nearest_from}
-use Rattle.inheritance.specs.Marked.{is_marked}
+use Rattle.inheritance.specs.MarkedDeclarations.{is_marked}
 use Rattle.name_tables.specs.Numbers.{declarations, class_number, chain_numbers, nearest_number}
 use Rattle.name_tables.specs.Members.{base_numbers, IsMemberTable}
 use Rattle.name_tables.proofs.Lists.{map-take_more}

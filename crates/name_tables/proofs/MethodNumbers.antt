@@ -16,11 +16,11 @@ use Rattle.name_tables.specs.declared.class_tables.ClassTable.{ClassTable}
 use Rattle.name_tables.specs.declared.keys.MethodKey.{MethodKey}
 use Rattle.name_tables.specs.declared.keys.CallNumber.{CallNumber}
 use Rattle.name_tables.specs.Entries.{declaration_in, entry_of}
-use Rattle.name_tables.specs.Inherited.{number_in}
+use Rattle.name_tables.specs.KeyIds.{number_in}
 use Rattle.name_tables.specs.Keys.{method_of_key}
 use Rattle.name_tables.specs.Methods.{identity_number, method_index, has_virtual, virtuals_of, virtual_index, call_of, call_index, AreNumbers}
 use Rattle.name_tables.specs.Numbers.{declarations}
-use Rattle.name_tables.specs.Sameness.{MethodIdentity, same_identity, identity_of, same_called, called_of, same_call}
+use Rattle.name_tables.specs.Sameness.{MethodIdentity, same_identity, identity_of, same_call_identity, call_identity_of, same_call}
 use Rattle.name_tables.specs.SamenessLaws.{identity_equivalence}
 use Rattle.name_tables.proofs.KeyNumbers.{is_known, known_in_rows, number_decides, index_by_number, row_at, number_of_view}
 use Rattle.name_tables.proofs.Lists.{map_of_map}
@@ -107,23 +107,23 @@ module _ (tree : Tree) (keys : List MethodKey) (known : map method_of_key keys �
   pub virtuals_by_numbers : (rows : List (List ℕ)) → rows ≡ map (λ (e : ClassName × Declaration). map number (virtuals_of e.1)) (declarations tree) → (k : MethodIdentity) (class : ℕ) → lines.index_in rows (number k) class ≡ virtual_index tree k class
   virtuals_by_numbers rows are k class = indices_by_numbers (λ (e : ClassName × Declaration). virtuals_of e.1) known_virtuals rows are k class
 
-  call_decides : (k : MethodIdentity × Bool) (m : Method) → known_to_all (identity_of m) ≡ true → same_call (call_of number k) (call_of number (called_of m)) ≡ same_called k (called_of m)
-  call_decides k m h = ap (λ b. b && same_flag k.1 (called_of m).1) (number_decides same_identity identity_equivalence all k.0 (identity_of m) h)
+  call_decides : (k : MethodIdentity × Bool) (m : Method) → known_to_all (identity_of m) ≡ true → same_call (call_of number k) (call_of number (call_identity_of m)) ≡ same_call_identity k (call_identity_of m)
+  call_decides k m h = ap (λ b. b && same_flag k.1 (call_identity_of m).1) (number_decides same_identity identity_equivalence all k.0 (identity_of m) h)
 
   call_indices : (k : MethodIdentity × Bool) (ms : List Method) (i : ℕ) → list_all known_to_all (map identity_of ms) ≡ true →
-      position_from (same_call (call_of number k)) i (map (λ (m : Method). call_of number (called_of m)) ms) ≡ position_from (λ m. same_called k (called_of m)) i ms
+      position_from (same_call (call_of number k)) i (map (λ (m : Method). call_of number (call_identity_of m)) ms) ≡ position_from (λ m. same_call_identity k (call_identity_of m)) i ms
   call_indices k [] i h = refl
   call_indices k (m ∷ ms) i h =
-      ap (λ b. cond b (Some i) (position_from (same_call (call_of number k)) (i + 1) (map (λ (x : Method). call_of number (called_of x)) ms))) (call_decides k m (both_first _ _ h)) ∙
-      ap (λ o. cond (same_called k (called_of m)) (Some i) o) (call_indices k ms (i + 1) (both_second _ _ h))
+      ap (λ b. cond b (Some i) (position_from (same_call (call_of number k)) (i + 1) (map (λ (x : Method). call_of number (call_identity_of x)) ms))) (call_decides k m (both_first _ _ h)) ∙
+      ap (λ o. cond (same_call_identity k (call_identity_of m)) (Some i) o) (call_indices k ms (i + 1) (both_second _ _ h))
 
-  pub calls_by_numbers : (rows : List (List CallNumber)) → rows ≡ map (λ (e : ClassName × Declaration). map (λ (m : Method). call_of number (called_of m)) e.1.methods) (declarations tree) → (k : MethodIdentity × Bool) (class : ℕ) →
+  pub calls_by_numbers : (rows : List (List CallNumber)) → rows ≡ map (λ (e : ClassName × Declaration). map (λ (m : Method). call_of number (call_identity_of m)) e.1.methods) (declarations tree) → (k : MethodIdentity × Bool) (class : ℕ) →
       position_from (same_call (call_of number k)) 0 (slice_index_or rows class []) ≡ call_index tree k class
   calls_by_numbers rows are k class = ap (λ rs. position_from (same_call (call_of number k)) 0 (slice_index_or rs class [])) are ∙ of (declarations tree) class (known_methods class)
     where
       of : (es : List (ClassName × Declaration)) (n : ℕ) → list_all known_to_all (slice_index_or (map identities es) n []) ≡ true →
-          position_from (same_call (call_of number k)) 0 (slice_index_or (map (λ (e : ClassName × Declaration). map (λ (m : Method). call_of number (called_of m)) e.1.methods) es) n []) ≡
-          option_and_then (λ (e : ClassName × Declaration). position_from (λ m. same_called k (called_of m)) 0 e.1.methods) (slice_get es n)
+          position_from (same_call (call_of number k)) 0 (slice_index_or (map (λ (e : ClassName × Declaration). map (λ (m : Method). call_of number (call_identity_of m)) e.1.methods) es) n []) ≡
+          option_and_then (λ (e : ClassName × Declaration). position_from (λ m. same_call_identity k (call_identity_of m)) 0 e.1.methods) (slice_get es n)
       of [] n h = refl
       of (e ∷ es) zero h = call_indices k e.1.methods 0 h
       of (e ∷ es) (suc n) h = of es n h

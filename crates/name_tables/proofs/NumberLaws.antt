@@ -12,12 +12,12 @@ use Rattle.cil_model.specs.declared.instructions.FieldReference.{FieldReference}
 use Rattle.cil_model.specs.declared.instructions.MethodReference.{MethodReference}
 use Rattle.cil_model.specs.declared.trees.Field.{Field}
 use Rattle.cil_model.specs.Chains.{nearest, listed_by, base_of, chain_within, chain_of, classes_searched, find_field, find_method}
-use Rattle.name_tables.specs.Sameness.{MethodIdentity, same_field, same_called, called_of}
+use Rattle.name_tables.specs.Sameness.{MethodIdentity, same_field, same_call_identity, call_identity_of}
 use Rattle.name_tables.specs.Numbers.{declarations, class_number, source_entry, nearest_number, member_at, index_in, field_at, method_at, field_number, method_number}
 use Rattle.name_tables.proofs.Lists.{option_map_of_map}
 use Rattle.cil_model.proofs.SameLaws.{class_equivalence, same_class_equal}
 use Rattle.cil_model.proofs.Lists.{find_passes}
-use Rattle.name_tables.specs.SamenessLaws.{field_equivalence, called_equivalence}
+use Rattle.name_tables.specs.SamenessLaws.{field_equivalence, call_identity_equivalence}
 
 pub none_is_some : {X : Type 0} (x : X) → None ≡ Some x → ⊥
 none_is_some x e = cc
@@ -174,9 +174,9 @@ module _ (tree : Tree) where
         option_map (λ p. member_at part tree (n, p)) (index_in part own tree n) ≡ option_map (λ x. Some (c, x)) (in_class c)
     in_present c d n e k =
         let named : X → ClassName × X = λ x. (c, x) in
-        let placed : option_map (λ p. member_at part tree (n, p)) (index_in part own tree n) ≡ option_map (λ p. option_map named (slice_get (part d) p)) (position_from own 0 (part d)) =
+        let member_is : option_map (λ p. member_at part tree (n, p)) (index_in part own tree n) ≡ option_map (λ p. option_map named (slice_get (part d) p)) (position_from own 0 (part d)) =
         ap (λ (z : Option (ClassName × Declaration)). option_map (λ p. option_and_then (λ (y : ClassName × Declaration). option_map (λ x. (y.0, x)) (slice_get (part y.1) p)) z) (option_and_then (λ (y : ClassName × Declaration). position_from own 0 (part y.1)) z)) k in
-        placed ∙ sym (option_map_of_map (slice_get (part d)) (option_map named) (position_from own 0 (part d))) ∙ ap (option_map (option_map named)) (found_at_index own (part d)) ∙
+        member_is ∙ sym (option_map_of_map (slice_get (part d)) (option_map named) (position_from own 0 (part d))) ∙ ap (option_map (option_map named)) (found_at_index own (part d)) ∙
         option_map_of_map Some (option_map named) (find own (part d)) ∙ ap (option_map (λ x. Some (named x))) (find_congr own test same (part d)) ∙
         sym (ap (λ z. option_map (λ x. Some (named x)) (find test (listed_by part z))) e)
 
@@ -192,9 +192,9 @@ module _ (tree : Tree) where
   pub method_has_id : (is_instance : Bool) (r : MethodReference) → option_map (method_at tree) (method_number tree is_instance r) ≡ option_map Some (find_method tree is_instance r)
   method_has_id is_instance r =
       let k : MethodIdentity × Bool = (record { name = r.name; signature = r.signature }, not is_instance) in
-      nearest_has_id _ (index_in (λ d. d.methods) (λ m. same_called k (called_of m)) tree) (method_at tree)
-      (in_absent (λ d. d.methods) (λ m. same_called k (called_of m)) (λ m. same_called (called_of m) k) (λ m. called_equivalence.symm k (called_of m)))
-      (in_present (λ d. d.methods) (λ m. same_called k (called_of m)) (λ m. same_called (called_of m) k) (λ m. called_equivalence.symm k (called_of m))) (classes_searched tree r.name r.owner)
+      nearest_has_id _ (index_in (λ d. d.methods) (λ m. same_call_identity k (call_identity_of m)) tree) (method_at tree)
+      (in_absent (λ d. d.methods) (λ m. same_call_identity k (call_identity_of m)) (λ m. same_call_identity (call_identity_of m) k) (λ m. call_identity_equivalence.symm k (call_identity_of m)))
+      (in_present (λ d. d.methods) (λ m. same_call_identity k (call_identity_of m)) (λ m. same_call_identity (call_identity_of m) k) (λ m. call_identity_equivalence.symm k (call_identity_of m))) (classes_searched tree r.name r.owner)
 
   -- ---- the numbers of a chain
 

@@ -37,10 +37,10 @@ method_of_key k = record {
 abbrev pub reference_of_keys : ClassKey → MethodKey → MethodReference
 reference_of_keys owner k = record { owner = class_of_key owner; name = (method_of_key k).name; signature = (method_of_key k).signature }
 
-abbrev pub called_of_key : CallKey → MethodIdentity × Bool
-called_of_key k = (method_of_key k.method, k.is_static)
+abbrev pub call_identity_of_key : CallKey → MethodIdentity × Bool
+call_identity_of_key k = (method_of_key k.method, k.is_static)
 
 -- what the hash of a method's name takes in
-abbrev pub fed_name : MethodName → HashWrites
-fed_name Constructor = []
-fed_name (Named name) = str name
+abbrev pub hash_input_of_name : MethodName → HashWrites
+hash_input_of_name Constructor = []
+hash_input_of_name (Named name) = str name

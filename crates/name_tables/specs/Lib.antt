@@ -5,7 +5,7 @@ pub mod BuiltInTable
 pub mod Entries
 pub mod Numbers
 pub mod FirstIndices
-pub mod Inherited
+pub mod KeyIds
 pub mod Members
 pub mod Hashes
 pub mod Methods

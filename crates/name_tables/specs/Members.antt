@@ -7,7 +7,7 @@ use Rattle.cil_model.specs.Chains.{longest_chain}
 use Rattle.inheritance.specs.declared.forests.Forest.{Forest}
 use Rattle.inheritance.specs.Lines as lines
 use Rattle.name_tables.specs.declared.keys.FieldKey.{FieldKey}
-use Rattle.name_tables.specs.Inherited.{number_in}
+use Rattle.name_tables.specs.KeyIds.{number_in}
 use Rattle.name_tables.specs.Keys.{field_of_key}
 use Rattle.name_tables.specs.Numbers.{declarations, class_number, index_in}
 use Rattle.name_tables.specs.Sameness.{same_field}

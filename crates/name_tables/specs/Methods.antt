@@ -11,11 +11,11 @@ use Rattle.inheritance.specs.declared.forests.Forest.{Forest}
 use Rattle.inheritance.specs.Lines.{line_within}
 use Rattle.name_tables.specs.declared.keys.MethodKey.{MethodKey}
 use Rattle.name_tables.specs.declared.keys.CallNumber.{CallNumber}
-use Rattle.name_tables.specs.Inherited.{number_in}
+use Rattle.name_tables.specs.KeyIds.{number_in}
 use Rattle.name_tables.specs.Keys.{method_of_key}
 use Rattle.name_tables.specs.Members.{base_numbers, IsMemberTable}
 use Rattle.name_tables.specs.Numbers.{declarations, index_in}
-use Rattle.name_tables.specs.Sameness.{MethodIdentity, same_identity, identity_of, same_called, called_of, same_call}
+use Rattle.name_tables.specs.Sameness.{MethodIdentity, same_identity, identity_of, same_call_identity, call_identity_of, same_call}
 
 -- the number of a name and signature among those of all declared methods
 abbrev pub identity_number : List MethodKey → MethodIdentity → ℕ
@@ -68,4 +68,4 @@ call_number keys calls k = number_in same_call calls (call_of (identity_number k
 
 -- the index of a method in a class, by its name, signature and staticness
 abbrev pub call_index : Tree → MethodIdentity × Bool → ℕ → Option ℕ
-call_index tree k class = index_in (λ d. d.methods) (λ m. same_called k (called_of m)) tree class
+call_index tree k class = index_in (λ d. d.methods) (λ m. same_call_identity k (call_identity_of m)) tree class

@@ -12,7 +12,7 @@ use Rattle.cil_model.specs.Declarations.{Declaration, built_ins, source_name, de
 use Rattle.cil_model.specs.declared.instructions.FieldReference.{FieldReference}
 use Rattle.cil_model.specs.declared.instructions.MethodReference.{MethodReference}
 use Rattle.cil_model.specs.Chains.{chain_of, classes_searched}
-use Rattle.name_tables.specs.Sameness.{MethodIdentity, same_field, same_identity, same_called, identity_of, called_of}
+use Rattle.name_tables.specs.Sameness.{MethodIdentity, same_field, same_identity, same_call_identity, identity_of, call_identity_of}
 
 abbrev pub source_entry : Class → ClassName × Declaration
 source_entry c = (source_name c, declared_as c.kind (field_members c) (method_members c))
@@ -54,7 +54,7 @@ field_number tree is_static r = nearest_number (index_in (λ d. d.fields) (same_
 
 abbrev pub method_number : Tree → Bool → MethodReference → Option (ℕ × ℕ)
 method_number tree is_instance r =
-    nearest_number (index_in (λ d. d.methods) (λ m. same_called (record { name = r.name; signature = r.signature }, not is_instance) (called_of m)) tree)
+    nearest_number (index_in (λ d. d.methods) (λ m. same_call_identity (record { name = r.name; signature = r.signature }, not is_instance) (call_identity_of m)) tree)
     (filter_map (class_number tree) (classes_searched tree r.name r.owner))
 
 -- the method of a class with this name and signature, by the number of the class

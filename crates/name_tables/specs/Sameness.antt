@@ -24,11 +24,11 @@ abbrev pub same_identity : MethodIdentity → MethodIdentity → Bool
 same_identity a b = same_method_name a.name b.name && same_signature a.signature b.signature
 
 -- with its staticness, as a call has it (II.15.1.3)
-abbrev pub called_of : Method → MethodIdentity × Bool
-called_of m = (identity_of m, is_static m.kind)
+abbrev pub call_identity_of : Method → MethodIdentity × Bool
+call_identity_of m = (identity_of m, is_static m.kind)
 
-abbrev pub same_called : MethodIdentity × Bool → MethodIdentity × Bool → Bool
-same_called a b = same_identity a.0 b.0 && same_flag a.1 b.1
+abbrev pub same_call_identity : MethodIdentity × Bool → MethodIdentity × Bool → Bool
+same_call_identity a b = same_identity a.0 b.0 && same_flag a.1 b.1
 
 -- calls whose methods' names and signatures have numbers
 abbrev pub same_call : CallNumber → CallNumber → Bool

@@ -6,7 +6,7 @@ use Rattle.cil_model.specs.declared.trees.Field.{Field}
 use Rattle.cil_model.proofs.SameLaws.{both_first, both_second, same_text_equal, same_flag_equal, same_type_equal, same_signature_equal, same_method_name_equal}
 use Rattle.cil_model.proofs.SameLaws.{same_text_itself, same_flag_itself, same_type_itself, same_signature_itself, same_method_name_itself, equivalence}
 use Rattle.name_tables.specs.declared.keys.CallNumber.{CallNumber}
-use Rattle.name_tables.specs.Sameness.{MethodIdentity, same_field, same_identity, same_called, same_call}
+use Rattle.name_tables.specs.Sameness.{MethodIdentity, same_field, same_identity, same_call_identity, same_call}
 
 -- ---- what is the same is equal
 
@@ -23,8 +23,8 @@ same_identity_equal a b h = λ i. record {
   signature = same_signature_equal a.signature b.signature (both_second _ _ h) i;
 }
 
-pub same_called_equal : (a b : MethodIdentity × Bool) → IsTrue (same_called a b) → a ≡ b
-same_called_equal a b h = λ i. (same_identity_equal a.0 b.0 (both_first _ _ h) i, same_flag_equal a.1 b.1 (both_second _ _ h) i)
+pub same_call_identity_equal : (a b : MethodIdentity × Bool) → IsTrue (same_call_identity a b) → a ≡ b
+same_call_identity_equal a b h = λ i. (same_identity_equal a.0 b.0 (both_first _ _ h) i, same_flag_equal a.1 b.1 (both_second _ _ h) i)
 
 pub same_call_equal : (a b : CallNumber) → IsTrue (same_call a b) → a ≡ b
 same_call_equal a b h = λ i. record {
@@ -34,26 +34,26 @@ same_call_equal a b h = λ i. record {
 
 -- ---- what is equal is the same
 
-pub same_field_itself : (f : Field) → IsTrue (same_field f f)
-same_field_itself f = and_from _ _ (and_from _ _ (same_text_itself f.name) (same_type_itself f.field_type)) (same_flag_itself f.is_static)
+pub same_field_reflexive : (f : Field) → IsTrue (same_field f f)
+same_field_reflexive f = and_from _ _ (and_from _ _ (same_text_itself f.name) (same_type_itself f.field_type)) (same_flag_itself f.is_static)
 
-pub same_identity_itself : (m : MethodIdentity) → IsTrue (same_identity m m)
-same_identity_itself m = and_from _ _ (same_method_name_itself m.name) (same_signature_itself m.signature)
+pub same_identity_reflexive : (m : MethodIdentity) → IsTrue (same_identity m m)
+same_identity_reflexive m = and_from _ _ (same_method_name_itself m.name) (same_signature_itself m.signature)
 
-pub same_called_itself : (m : MethodIdentity × Bool) → IsTrue (same_called m m)
-same_called_itself m = and_from _ _ (same_identity_itself m.0) (same_flag_itself m.1)
+pub same_call_identity_reflexive : (m : MethodIdentity × Bool) → IsTrue (same_call_identity m m)
+same_call_identity_reflexive m = and_from _ _ (same_identity_reflexive m.0) (same_flag_itself m.1)
 
-pub same_call_itself : (c : CallNumber) → IsTrue (same_call c c)
-same_call_itself c = and_from _ _ (eq-eqb c.number c.number refl) (same_flag_itself c.is_static)
+pub same_call_reflexive : (c : CallNumber) → IsTrue (same_call c c)
+same_call_reflexive c = and_from _ _ (eq-eqb c.number c.number refl) (same_flag_itself c.is_static)
 
 pub field_equivalence : IsEquivalence same_field
-field_equivalence = equivalence same_field same_field_itself same_field_equal
+field_equivalence = equivalence same_field same_field_reflexive same_field_equal
 
 pub identity_equivalence : IsEquivalence same_identity
-identity_equivalence = equivalence same_identity same_identity_itself same_identity_equal
+identity_equivalence = equivalence same_identity same_identity_reflexive same_identity_equal
 
-pub called_equivalence : IsEquivalence same_called
-called_equivalence = equivalence same_called same_called_itself same_called_equal
+pub call_identity_equivalence : IsEquivalence same_call_identity
+call_identity_equivalence = equivalence same_call_identity same_call_identity_reflexive same_call_identity_equal
 
 pub call_equivalence : IsEquivalence same_call
-call_equivalence = equivalence same_call same_call_itself same_call_equal
+call_equivalence = equivalence same_call same_call_reflexive same_call_equal

@@ -6,7 +6,7 @@ ghost use Rattle.std.specs.Option.{ForSome};
 ghost use Rattle.inheritance.specs.Lines.{index_in, Ends};
 ghost use Rattle.inheritance.specs.ScopedTables.{pair_of, nearest_from};
 ghost use Rattle.inheritance.specs.CutCycles.{IsCut};
-ghost use Rattle.name_tables.specs.Inherited.{number_in, HaveIds};
+ghost use Rattle.name_tables.specs.KeyIds.{number_in, HaveIds};
 
 use crate::ids::ClassId;
 use crate::key_indices::KeyIndices;

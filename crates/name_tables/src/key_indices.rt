@@ -5,7 +5,7 @@ ghost use Rattle.std.specs.List.{position_from};
 ghost use Rattle.std.specs.HashMap.{get};
 ghost use Rattle.cil_model.specs.Legality.{has_repeat};
 ghost use Rattle.name_tables.specs.FirstIndices.{AreFirst, with_first};
-ghost use Rattle.name_tables.specs.Inherited.{number_in};
+ghost use Rattle.name_tables.specs.KeyIds.{number_in};
 
 use cil_model::memory::NoMemory;
 use std::alloc::Global;
@@ -39,7 +39,7 @@ impl<K: Eq + Hash + Copy + Drop> Model for KeyIndices<K> {
     ghost use Rattle.std.specs.HashMap.{get};
     ghost use Rattle.cil_model.specs.Legality.{has_repeat};
     ghost use Rattle.name_tables.specs.FirstIndices.{AreFirst};
-    ghost use Rattle.name_tables.specs.Inherited.{number_in};
+    ghost use Rattle.name_tables.specs.KeyIds.{number_in};
 
     ghost Value = { List K };
 

@@ -160,11 +160,11 @@ impl Hash for FieldKey<'_> {
     ghost use Rattle.std.proofs.Common.{ap};
     ghost use Rattle.name_tables.specs.SamenessLaws.{same_field_equal};
     ghost use Rattle.name_tables.specs.Keys.{field_of_key};
-    ghost use Rattle.name_tables.specs.Hashes.{fed_field};
+    ghost use Rattle.name_tables.specs.Hashes.{hash_input_of_field};
 
-    ghost hash_input = { λ k. fed_field (field_of_key k) };
+    ghost hash_input = { λ k. hash_input_of_field (field_of_key k) };
 
-    ghost respects_eq = { λ a b h. ap fed_field (same_field_equal (field_of_key a) (field_of_key b) h) };
+    ghost respects_eq = { λ a b h. ap hash_input_of_field (same_field_equal (field_of_key a) (field_of_key b) h) };
 
     fn hash<H: Hasher>(&self, state: &mut H) {
         self.name.as_str().hash(state);
@@ -207,11 +207,11 @@ impl Hash for MethodKey<'_> {
     ghost use Rattle.std.specs.Hash as fed;
     ghost use Rattle.name_tables.specs.SamenessLaws.{same_identity_equal};
     ghost use Rattle.name_tables.specs.Keys.{method_of_key};
-    ghost use Rattle.name_tables.specs.Hashes.{fed_method};
+    ghost use Rattle.name_tables.specs.Hashes.{hash_input_of_method};
 
-    ghost hash_input = { λ k. fed_method (method_of_key k) };
+    ghost hash_input = { λ k. hash_input_of_method (method_of_key k) };
 
-    ghost respects_eq = { λ a b h. ap fed_method (same_identity_equal (method_of_key a) (method_of_key b) h) };
+    ghost respects_eq = { λ a b h. ap hash_input_of_method (same_identity_equal (method_of_key a) (method_of_key b) h) };
 
     fn hash<H: Hasher>(&self, state: &mut H) {
         match self.name {

@@ -8,11 +8,11 @@ ghost use Rattle.cil_model.specs.Chains.{find_field, find_method, longest_chain}
 ghost use Rattle.inheritance.specs.ScopedTables.{pair_of};
 ghost use Rattle.name_tables.specs.BuiltInTable.{built_in_entry};
 ghost use Rattle.cil_model.specs.Declarations.{built_ins};
-ghost use Rattle.name_tables.specs.Keys.{class_of_key, field_of_key, called_of_key, reference_of_keys};
+ghost use Rattle.name_tables.specs.Keys.{class_of_key, field_of_key, call_identity_of_key, reference_of_keys};
 ghost use Rattle.name_tables.specs.Members.{base_numbers, field_key_number, field_index, EndsIn, IsMemberTable};
 ghost use Rattle.name_tables.specs.Methods.{call_number, call_of, call_index, identity_number, line_of, IsMethodTable};
 ghost use Rattle.name_tables.specs.Numbers.{chain_numbers, nearest_number, index_in, field_at, method_at, field_number, method_number, class_number};
-ghost use Rattle.name_tables.specs.Sameness.{same_field, same_called, called_of};
+ghost use Rattle.name_tables.specs.Sameness.{same_field, same_call_identity, call_identity_of};
 
 use crate::built_in::BuiltInClass;
 use crate::ids::{ClassId, FieldId, MethodId};
@@ -160,7 +160,7 @@ impl<'a> NameTables<'a> {
 
     /// The number of a method's name and signature, with its staticness.
     fn call_number(&self, key: CallKey) -> CallNumber
-        ensures { result ≡ call_of (identity_number self.now.methods.keys) (called_of_key key.entry) }
+        ensures { result ≡ call_of (identity_number self.now.methods.keys) (call_identity_of_key key.entry) }
     {
         CallNumber {
             number: number_of(&self.methods.keys, key.method),
@@ -170,14 +170,14 @@ impl<'a> NameTables<'a> {
 
     /// The nearest method from a class on.
     fn call_from(&self, class: ClassId, key: CallKey) -> Option<MethodId>
-        ensures { option_map (λ m. (m.class, m.index)) result ≡ nearest_number (call_index self.now.classes.tree.now (called_of_key key.entry)) (line_of self.now.classes.tree.now (Some class)) }
+        ensures { option_map (λ m. (m.class, m.index)) result ≡ nearest_number (call_index self.now.classes.tree.now (call_identity_of_key key.entry)) (line_of self.now.classes.tree.now (Some class)) }
     {
         method_id(self.calls.find(class, self.call_number(key)))
     }
 
     /// The nearest method of a class's chain.
     fn nearest_call(&self, owner: ClassKey, key: CallKey) -> Option<MethodId>
-        ensures { option_map (λ m. (m.class, m.index)) result ≡ nearest_number (call_index self.now.classes.tree.now (called_of_key key.entry)) (chain_numbers self.now.classes.tree.now (class_of_key owner.entry)) }
+        ensures { option_map (λ m. (m.class, m.index)) result ≡ nearest_number (call_index self.now.classes.tree.now (call_identity_of_key key.entry)) (chain_numbers self.now.classes.tree.now (class_of_key owner.entry)) }
     {
         let Some(class) = self.classes.id(owner) else {
             return None;
@@ -187,7 +187,7 @@ impl<'a> NameTables<'a> {
 
     /// The method that a class itself declares, by its id.
     fn own_call_of(&self, class: ClassId, key: CallKey) -> Option<MethodId>
-        ensures { option_map (λ m. (m.class, m.index)) result ≡ nearest_number (call_index self.now.classes.tree.now (called_of_key key.entry)) (class ∷ []) }
+        ensures { option_map (λ m. (m.class, m.index)) result ≡ nearest_number (call_index self.now.classes.tree.now (call_identity_of_key key.entry)) (class ∷ []) }
     {
         match self.call_from(class, key) {
             None => None,
@@ -203,7 +203,7 @@ impl<'a> NameTables<'a> {
 
     /// The method that a class itself declares.
     fn own_call(&self, owner: ClassKey, key: CallKey) -> Option<MethodId>
-        ensures { option_map (λ m. (m.class, m.index)) result ≡ nearest_number (index_in (λ d. d.methods) (λ m. same_called (called_of_key key.entry) (called_of m)) self.now.classes.tree.now) (cons_option (class_number self.now.classes.tree.now (class_of_key owner.entry)) []) }
+        ensures { option_map (λ m. (m.class, m.index)) result ≡ nearest_number (index_in (λ d. d.methods) (λ m. same_call_identity (call_identity_of_key key.entry) (call_identity_of m)) self.now.classes.tree.now) (cons_option (class_number self.now.classes.tree.now (class_of_key owner.entry)) []) }
     {
         match self.classes.id(owner) {
             None => None,

@@ -6,7 +6,7 @@ ghost use Rattle.name_tables.specs.Keys.{field_of_key, method_of_key};
 ghost use Rattle.name_tables.specs.Members.{base_numbers, field_key_number, field_index, IsMemberTable};
 ghost use Rattle.name_tables.specs.Methods.{call_number, call_of, call_index, IsMethodTable};
 ghost use Rattle.name_tables.specs.Numbers.{declarations, class_number};
-ghost use Rattle.name_tables.specs.Sameness.{MethodIdentity, identity_of, called_of};
+ghost use Rattle.name_tables.specs.Sameness.{MethodIdentity, identity_of, call_identity_of};
 
 use crate::class_tables::{ClassTable, method_keys};
 use crate::ids::ClassId;
@@ -59,7 +59,7 @@ fn call_numbers(
     numbers: &[usize],
 ) -> Result<Vec<CallNumber>, NoMemory>
     requires { length numbers.now ≡ length methods.now }
-    ensures { IfOk result (λ v. (number : MethodIdentity → ℕ) → numbers.now ≡ map (λ m. number (identity_of m.now)) methods.now → v.items ≡ map (λ m. call_of number (called_of m.now)) methods.now) }
+    ensures { IfOk result (λ v. (number : MethodIdentity → ℕ) → numbers.now ≡ map (λ m. number (identity_of m.now)) methods.now → v.items ≡ map (λ m. call_of number (call_identity_of m.now)) methods.now) }
 {
     let mut keys = Vec::with_capacity(alloc, methods.len())?;
     for index in 0..methods.len() {
@@ -90,7 +90,7 @@ fn call_rows(
     numbers: &[Vec<usize>],
 ) -> Result<Vec<Vec<CallNumber>>, NoMemory>
     requires { map (λ r. length r.items) numbers.now ≡ map (λ t. length (declaration_in t.class).methods) tables.now }
-    ensures { IfOk result (λ v. (number : MethodIdentity → ℕ) → map (λ r. r.items) numbers.now ≡ map (λ t. map (λ m. number (identity_of m)) (declaration_in t.class).methods) tables.now → map (λ r. r.items) v.items ≡ map (λ t. map (λ m. call_of number (called_of m)) (declaration_in t.class).methods) tables.now) }
+    ensures { IfOk result (λ v. (number : MethodIdentity → ℕ) → map (λ r. r.items) numbers.now ≡ map (λ t. map (λ m. number (identity_of m)) (declaration_in t.class).methods) tables.now → map (λ r. r.items) v.items ≡ map (λ t. map (λ m. call_of number (call_identity_of m)) (declaration_in t.class).methods) tables.now) }
 {
     let mut rows = Vec::with_capacity(alloc, tables.len())?;
     for index in 0..tables.len() {

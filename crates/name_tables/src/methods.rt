@@ -4,9 +4,9 @@ ghost use Rattle.std.specs.Prelude.{◌≡◌, ◌≢◌, ◌<◌, ◌==◌, Boo
 ghost use Rattle.std.specs.List.{list_all};
 ghost use Rattle.inheritance.specs.Lines.{Ends};
 ghost use Rattle.inheritance.specs.ScopedTables.{nearest_from};
-ghost use Rattle.inheritance.specs.Marked.{is_marked};
+ghost use Rattle.inheritance.specs.MarkedDeclarations.{is_marked};
 ghost use Rattle.name_tables.specs.Entries.{declaration_in};
-ghost use Rattle.name_tables.specs.Inherited.{number_in};
+ghost use Rattle.name_tables.specs.KeyIds.{number_in};
 ghost use Rattle.name_tables.specs.Keys.{method_of_key};
 ghost use Rattle.name_tables.specs.Members.{base_numbers, EndsIn, IsMemberTable};
 ghost use Rattle.name_tables.specs.Methods.{method_index, virtual_index, virtual_number, virtuals_of, line_of, methods_at};

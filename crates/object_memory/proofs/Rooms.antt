@@ -6,19 +6,19 @@ use Rattle.std.proofs.lemmas.List.Sums.{sum_by-cons, sum_by-le-sum_by}
 use Rattle.object_memory.specs.declared.addresses.Addr.{Addr}
 use Rattle.object_memory.specs.declared.kinds.Kind.{Kind}
 use Rattle.object_memory.specs.Cells.{Cell, Cells, size, used_words, free_words, next_address, cell_in, change_in, with_last, empty_cell}
-use Rattle.object_memory.specs.Spaces.{Spaces, AreSpaces, change_at, with_old, with_new, with_shell, shell_of, set_mark, set_other, open_cycle, bare, bare_words, white, whites, HasShellRoom, HasGreyRoom}
+use Rattle.object_memory.specs.Spaces.{Spaces, AreSpaces, change_at, with_old, with_new, with_shell, shell_of, set_mark, set_other, open_cycle, size_without_copy, words_without_copies, white, whites, HasShellRoom, HasGreyRoom}
 use Rattle.object_memory.proofs.Blocks.{part_in, used_last, sum_last, sum_in, used_in, unchanged_in}
 use Rattle.object_memory.proofs.TwoSpaces.TwoBlocks.{not_new, AreSpaces-with_new}
 
 -- ---- the copy always fits
 
-bare_none : (c : Cell) → c.other ≡ None → bare c ≡ size c
+bare_none : (c : Cell) → c.other ≡ None → size_without_copy c ≡ size c
 bare_none c e = rw e refl
 
-bare_some : (c : Cell) (b : Addr) → c.other ≡ Some b → bare c ≡ 0
+bare_some : (c : Cell) (b : Addr) → c.other ≡ Some b → size_without_copy c ≡ 0
 bare_some c b e = rw e refl
 
-bare_le : (c : Cell) (o : Option Addr) → c.other ≡ o → bare c ≤ size c
+bare_le : (c : Cell) (o : Option Addr) → c.other ≡ o → size_without_copy c ≤ size c
 bare_le c None e = omega (arith, bare_none c e)
 bare_le c (Some b) e = omega (arith, bare_some c b e)
 
@@ -29,18 +29,18 @@ pub size-shell : (a : Addr) (c : Cell) → size (shell_of a c) ≡ size c
 size-shell a c = size-empty c.kind (length c.slots) false (Some a)
 
 -- a changed cell takes the others' part, its own before, and its own after
-bare_more : (s : Cells) (f : Cell → Cell) (a : Addr) (c : Cell) → cell_in s a ≡ Some c → bare_words (change_in f s a).cells + bare c ≡ bare_words s.cells + bare (f c)
-bare_more s f a c e = sum_in f bare s a c e
+bare_more : (s : Cells) (f : Cell → Cell) (a : Addr) (c : Cell) → cell_in s a ≡ Some c → words_without_copies (change_in f s a).cells + size_without_copy c ≡ words_without_copies s.cells + size_without_copy (f c)
+bare_more s f a c e = sum_in f size_without_copy s a c e
 
 -- the cells that have no other copy take at most all words in use
-pub bare-le-used : (s : Cells) → bare_words s.cells ≤ used_words s.cells
-bare-le-used s = sum_by-le-sum_by bare size s.cells (λ c. bare_le c c.other refl)
+pub size_without_copy-le-used : (s : Cells) → words_without_copies s.cells ≤ used_words s.cells
+size_without_copy-le-used s = sum_by-le-sum_by size_without_copy size s.cells (λ c. bare_le c c.other refl)
 
 module _ (m : Spaces) (h : AreSpaces m) (room : HasShellRoom m) where
   -- a copy of a cell that has none fits
   pub shell_fits : (a : Addr) (c : Cell) → cell_in m.old a ≡ Some c → c.other ≡ None → size (shell_of a c) ≤ free_words m.new
   shell_fits a c e other =
-      let part = part_in bare m.old a c e in
+      let part = part_in size_without_copy m.old a c e in
       omega (arith, part, bare_none c other, size-shell a c, room.words, room.long, h.old.fits)
 
   -- and the next one does too
@@ -63,14 +63,14 @@ module _ (m : Spaces) (h : AreSpaces m) (room : HasShellRoom m) where
   pub HasShellRoom-with_old : (c : Cell) → HasShellRoom (with_old m c)
   HasShellRoom-with_old c =
       record {
-        words = omega (arith, used_last m.old c, sum_last bare m.old c, bare_le c c.other refl, room.words);
+        words = omega (arith, used_last m.old c, sum_last size_without_copy m.old c, bare_le c c.other refl, room.words);
         long = room.long;
       }
 
   pub HasShellRoom-with_both : (c d : Cell) (b : Addr) → c.other ≡ Some b → size d ≡ size c → HasShellRoom (with_new (with_old m c) d)
   HasShellRoom-with_both c d b other same =
       record {
-        words = omega (arith, used_last m.old c, used_last m.new d, sum_last bare m.old c, bare_some c b other, same, room.words);
+        words = omega (arith, used_last m.old c, used_last m.new d, sum_last size_without_copy m.old c, bare_some c b other, same, room.words);
         long = room.long;
       }
 
@@ -78,15 +78,15 @@ module _ (m : Spaces) (h : AreSpaces m) (room : HasShellRoom m) where
   pub HasShellRoom-change : (f : Cell → Cell) → ((c : Cell) → size (f c) ≡ size c) → ((c : Cell) → (f c).other ≡ c.other) → (a : Addr) → HasShellRoom (change_at f m a)
   HasShellRoom-change f keeps others a = record { words = omega (arith, used_in f keeps m.old a, used_in f keeps m.new a, bare_stays (cell_in m.old a) refl, room.words); long = room.long }
     where
-      bare_stays : (o : Option Cell) → cell_in m.old a ≡ o → bare_words (change_in f m.old a).cells ≡ bare_words m.old.cells
-      bare_stays None e = ap (λ (s : Cells). bare_words s.cells) (unchanged_in f m.old a e)
+      bare_stays : (o : Option Cell) → cell_in m.old a ≡ o → words_without_copies (change_in f m.old a).cells ≡ words_without_copies m.old.cells
+      bare_stays None e = ap (λ (s : Cells). words_without_copies s.cells) (unchanged_in f m.old a e)
       bare_stays (Some c) e =
-          let same : bare (f c) ≡ bare c = rw (others c, keeps c) refl in
+          let same : size_without_copy (f c) ≡ size_without_copy c = rw (others c, keeps c) refl in
           omega (arith, same, bare_more m.old f a c e)
 
 -- it holds where a cycle opens, whose new block is at least as long
 pub HasShellRoom-opened : (m : Spaces) (words : ℕ) → m.old.words ≤ words → HasShellRoom (open_cycle m words)
-HasShellRoom-opened m words long = record { words = omega (arith, bare-le-used m.old); long = long }
+HasShellRoom-opened m words long = record { words = omega (arith, size_without_copy-le-used m.old); long = long }
 
 -- ---- the grey list has room
 

@@ -181,28 +181,28 @@ close_cycle m = record { old = m.new; new = record { start = m.old.start; cells 
 -- ---- room
 
 -- the words of a cell that has no other copy yet
-abbrev pub bare_by : Option Addr → ℕ → ℕ
-bare_by None n = n
-bare_by (Some a) n = 0
+abbrev pub size_if_no_copy : Option Addr → ℕ → ℕ
+size_if_no_copy None n = n
+size_if_no_copy (Some a) n = 0
 
-abbrev pub bare : Cell → ℕ
-bare c = bare_by c.other (size c)
+abbrev pub size_without_copy : Cell → ℕ
+size_without_copy c = size_if_no_copy c.other (size c)
 
-abbrev pub bare_words : List Cell → ℕ
-bare_words cs = sum_by bare cs
+abbrev pub words_without_copies : List Cell → ℕ
+words_without_copies cs = sum_by size_without_copy cs
 
 -- until the cells are copied the new block holds no more words than the old cells with other copies take
 pub record HasShellRoom (m : Spaces) : Type 0 where
-  pub words : used_words m.new.cells + bare_words m.old.cells ≤ used_words m.old.cells
+  pub words : used_words m.new.cells + words_without_copies m.old.cells ≤ used_words m.old.cells
   pub long : m.old.words ≤ m.new.words
 
 -- a cell that isn't marked yet
-abbrev pub white_by : Bool → ℕ
-white_by true = 0
-white_by false = 1
+abbrev pub count_if_white : Bool → ℕ
+count_if_white true = 0
+count_if_white false = 1
 
 abbrev pub white : Cell → ℕ
-white c = white_by c.marked
+white c = count_if_white c.marked
 
 abbrev pub whites : List Cell → ℕ
 whites cs = sum_by white cs

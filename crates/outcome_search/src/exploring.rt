@@ -1,7 +1,7 @@
 //! Finds every outcome of a source over all schedules.
 
 ghost use Rattle.std.specs.Prelude.{◌≡◌, IfErr, IfOk, Some, ℕ, map, slice_get, true};
-ghost use Rattle.acceptance.specs.Sources.{IsLetIn, IsNotRun};
+ghost use Rattle.acceptance.specs.Sources.{HasAcceptedTree, IsNotRun};
 ghost use Rattle.exploration.specs.simulation.cil_model.Legality.{IsLegal};
 ghost use Rattle.exploration.specs.Begins.{Begins};
 ghost use Rattle.exploration.specs.Paths.{IsReal, outcome_found};
@@ -45,7 +45,7 @@ pub fn explore(
     limits: Limits,
     bounds: Bounds,
 ) -> Result<Exploration, Failure>
-    ensures accepted { IfOk result (λ _. IsLetIn source.now) }
+    ensures accepted { IfOk result (λ _. HasAcceptedTree source.now) }
     ensures complete { IfOk result (λ e. e.is_complete ≡ true → HasAllOutcomes source.now limits (map outcome_found e.found.items)) }
     ensures real { IfOk result (λ e. (n : ℕ) (f : AnyFoundOutcome) → slice_get e.found.items n ≡ Some f → IsFoundIn source.now limits f) }
     ensures refused { IfErr result (IsNotRun source.now limits) }

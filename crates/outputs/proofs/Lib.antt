@@ -1,2 +1,2 @@
 pub mod BeginningLaws
-pub mod TakenLaws
+pub mod StreamLaws

@@ -5,7 +5,7 @@
 
 ghost use Rattle.std.specs.Prelude.{◌≡◌, ◌≤◌, false, flat_map, length, IfSome, OnErr, OnOk, Option, true};
 ghost use Rattle.std.specs.Io.KnownBytes.{Appends};
-ghost use Rattle.outputs.specs.Taken.{Fails, HasGrown, Taken, Takes, is_failure, prefix_of};
+ghost use Rattle.outputs.specs.Streams.{Fails, HasGrown, StreamState, Takes, is_failure, prefix_of};
 
 use std::io::{ErrorKind, Write};
 use std::marker::Model;
@@ -17,7 +17,7 @@ pub struct Device(());
 /// What takes bytes, and counts the calls that failed.
 pub trait Out {
     // The bytes that it has taken, where they are known, and how many of its calls failed.
-    ghost taken: { Self → Taken };
+    ghost taken: { Self → StreamState };
 
     /// Takes a prefix of these bytes, and returns its length. A call fails where it returns None, or 0 of some bytes: then it took none. The
     /// count of failures grows where it fails, and otherwise stays.

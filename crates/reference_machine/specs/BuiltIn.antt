@@ -14,7 +14,7 @@ use Rattle.cil_model.specs.Declarations.{object_name, console_name, monitor_name
 use Rattle.cil_model.specs.Slots.{target}
 use Rattle.reference_machine.specs.Values.{ObjectName, Literal, Value, Int32, Int64, Null, Reference}
 use Rattle.reference_machine.specs.States.{Monitor, Free, Held, HeapObject, Frame, State, object_at, with_object, class_of, monitor_of, with_monitor, is_live}
-use Rattle.reference_machine.specs.Effects.{Setting, Effect, Blocks, Raises, Sticks, when_some, not_null, new_frame, onward}
+use Rattle.reference_machine.specs.Effects.{StepContext, Effect, Blocks, Raises, Sticks, when_some, not_null, new_frame, onward}
 use Rattle.cil_model.specs.Chains.{is_thread_class}
 
 -- what the members without code do
@@ -49,7 +49,7 @@ line_of Null = Some (10 ∷ [])
 line_of (Reference (Literal characters)) = Some (characters ++ 10 ∷ [])
 line_of _ = None
 
-module _ (here : Setting) (s : State) (f : Frame) (below : List Frame) where
+module _ (here : StepContext) (s : State) (f : Frame) (below : List Frame) where
   -- a monitor that is free or one's own is entered once more (I.12.6.5); another's blocks
   abbrev pub enter : ObjectName → List Value → Monitor → Effect
   enter n rest Free = onward f below (with_monitor s n (Held here.thread 1)) rest

@@ -11,7 +11,7 @@ use Rattle.reference_machine.specs.Values.{ObjectName, Value, Int32, Int64, Nati
 use Rattle.reference_machine.specs.States.{Frame, State}
 
 -- what a step is made in: the program, the limits of its run, the thread that makes it, and whether a birth is refused
-pub record Setting : Type 0 where
+pub record StepContext : Type 0 where
   pub tree : Tree
   pub limits : Limits
   pub thread : ℕ

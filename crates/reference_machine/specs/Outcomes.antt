@@ -8,16 +8,16 @@ use Rattle.reference_machine.specs.States.{State}
 use Rattle.reference_machine.specs.Runs.{StepRequest, Run, RunsTo, SticksAfter, initial_state, run}
 
 -- the reports of the steps and all that was printed; or the reports before a step that is stuck; or there is no entry point
-pub data Showing : Type 0 where
-  Shows : List Report → List ℕ → Showing
-  StuckAfter : List Report → Showing
-  NeverBegins : Showing
+pub data Observation : Type 0 where
+  Shows : List Report → List ℕ → Observation
+  StuckAfter : List Report → Observation
+  NeverBegins : Observation
 
 -- what a run shows
-abbrev pub showing_of : Run → Showing
-showing_of (RunsTo reports s) = Shows reports s.printed
-showing_of (SticksAfter reports) = StuckAfter reports
+abbrev pub observation_of : Run → Observation
+observation_of (RunsTo reports s) = Shows reports s.printed
+observation_of (SticksAfter reports) = StuckAfter reports
 
 -- what the run of a program shows
-abbrev pub outputs_of : Tree → Limits → List StepRequest → Showing
-outputs_of tree limits requests = option_map_or (λ (s : State). showing_of (run tree limits s requests)) (initial_state tree limits) NeverBegins
+abbrev pub outputs_of : Tree → Limits → List StepRequest → Observation
+outputs_of tree limits requests = option_map_or (λ (s : State). observation_of (run tree limits s requests)) (initial_state tree limits) NeverBegins

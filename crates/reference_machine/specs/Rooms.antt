@@ -28,7 +28,7 @@ pub record ExceedsRoom (tree : Tree) (limits : Limits) (s : State) (t : ℕ) : T
   pub report : Report
   pub after : State
   pub object : HeapObject
-  pub unrefused : step tree limits s t false ≡ Answers report after
+  pub without_refusal : step tree limits s t false ≡ Answers report after
   pub is_born : after.objects ≡ s.objects ++ object ∷ []
   pub exceeds : IsTrue (is_refused (spaces tree limits s) Idle (cell_words tree object.contents))
 

@@ -27,7 +27,7 @@ use Rattle.cil_model.specs.FlowRules.{is_of_element_kind}
 use Rattle.reference_machine.specs.Values.{ObjectName, Literal, Value, Int32, Int64, Native, Null, Reference, zero_of, is_of_kind}
 use Rattle.reference_machine.specs.Arithmetic.{binary_value, unary_value, shift_value, compare_values, branch_values, is_set, convert_32, convert_64, as_index, one_or_zero, not_option}
 use Rattle.reference_machine.specs.States.{Contents, Array, Frame, Thread, State, is_live_thread, entry_at, replaced_entry, replaced_at, field_value, with_field, array_at, with_element, type_of, class_of, next_name, with_birth, new_instance}
-use Rattle.reference_machine.specs.Effects.{Setting, Effect, Goes, Blocks, Raises, Sticks, when_some, unless_fault, pop_many, not_null, are_of_kinds, new_frame, after, onward, return_value}
+use Rattle.reference_machine.specs.Effects.{StepContext, Effect, Goes, Blocks, Raises, Sticks, when_some, unless_fault, pop_many, not_null, are_of_kinds, new_frame, after, onward, return_value}
 use Rattle.cil_model.specs.Stacks.{take_one, take_two, take_three}
 use Rattle.reference_machine.specs.BuiltIn.{action_of, act}
 
@@ -35,7 +35,7 @@ use Rattle.reference_machine.specs.BuiltIn.{action_of, act}
 abbrev pub key_of : ClassName × Field → FieldKey
 key_of found = record { declared_in = found.0; name = found.1.name }
 
-module _ (here : Setting) (s : State) (f : Frame) (below : List Frame) where
+module _ (here : StepContext) (s : State) (f : Frame) (below : List Frame) where
   -- on to the next instruction with this stack
   abbrev pub next : List Value → Effect
   next stack = onward f below s stack
@@ -220,7 +220,7 @@ abbrev pub instruction_at : Frame → Option Instruction
 instruction_at f = option_map (λ (l : Line). l.instruction) (slice_get (lines_of f.method) f.pc)
 
 -- what the thread's frames do next
-abbrev pub effect_of : Setting → State → List Frame → Effect
+abbrev pub effect_of : StepContext → State → List Frame → Effect
 effect_of here s [] = Sticks
 effect_of here s (f ∷ below) = when_some (instruction_at f) (execute here s f below)
 
@@ -246,7 +246,7 @@ charge s t left frames (Raises fault) = ended_as s t left (ByFault fault)
 charge s t left frames Sticks = Stuck
 
 -- a thread that has ended is absent; each step of a live one takes one from its budget
-abbrev pub step_of : Setting → State → Thread → StepOutcome
+abbrev pub step_of : StepContext → State → Thread → StepOutcome
 step_of here s thread =
     if is_live_thread thread then charge s here.thread (thread.steps_left - 1) thread.frames (effect_of here s thread.frames) else Answers Absent s
 

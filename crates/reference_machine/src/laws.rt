@@ -20,7 +20,7 @@ ghost use Rattle.cil_model.specs.Slots.{target};
 ghost use Rattle.reference_machine.specs.BuiltIn.{action_of};
 ghost use Rattle.reference_machine.specs.Values.{ObjectName};
 ghost use Rattle.reference_machine.specs.States.{Frame, State, type_of, class_of};
-ghost use Rattle.reference_machine.specs.Effects.{Setting, Raises};
+ghost use Rattle.reference_machine.specs.Effects.{StepContext, Raises};
 ghost use Rattle.reference_machine.specs.Steps.{execute, step, Answers};
 ghost use Rattle.reference_machine.specs.Faults.{MayRaise};
 ghost use Rattle.reference_machine.specs.Growth.{Follows};
@@ -56,7 +56,7 @@ pub fn types_stay()
 
 /// An instruction raises faults alone that are listed for it, or for the built-in member that it runs.
 pub fn raised_faults_are_listed()
-    ensures { (here : Setting) (s : State) (f : Frame) (below : List Frame) (i : Instruction) (x : Fault) → execute here s f below i ≡ Raises x → MayRaise here.tree i x }
+    ensures { (here : StepContext) (s : State) (f : Frame) (below : List Frame) (i : Instruction) (x : Fault) → execute here s f below i ≡ Raises x → MayRaise here.tree i x }
 {}
 
 /// The steps of two lists, one after the other, are the run of the first and then that of the second from there; none
@@ -72,7 +72,7 @@ pub fn runs_join()
 
 /// An instruction raises `OutOfMemory` only where its birth is refused.
 pub fn memory_runs_out_only_where_a_birth_is_refused()
-    ensures { (here : Setting) (s : State) (f : Frame) (below : List Frame) (i : Instruction) → execute here s f below i ≡ Raises OutOfMemory → here.is_refused ≡ true }
+    ensures { (here : StepContext) (s : State) (f : Frame) (below : List Frame) (i : Instruction) → execute here s f below i ≡ Raises OutOfMemory → here.is_refused ≡ true }
 {}
 
 /// A program has one run by the same steps within the same limits, where nothing is collected: since each birth is refused exactly beyond

@@ -14,7 +14,7 @@ use Rattle.name_tables.specs.declared.ids.MethodId.{MethodId}
 use Rattle.name_tables.specs.Numbers.{field_at, method_at}
 use Rattle.resolved_code.specs.declared.classes.ResolvedField.{ResolvedField}
 use Rattle.resolved_code.specs.declared.classes.ResolvedMethod.{ResolvedMethod}
-use Rattle.resolved_code.specs.Resolved.{AreResolved, BothAlike, IsResolvedField, IsResolvedMethod}
+use Rattle.resolved_code.specs.ResolvedPrograms.{AreResolved, BothAlike, IsResolvedField, IsResolvedMethod}
 use Rattle.resolved_code.specs.declared.contents.Contents.{Contents}
 
 -- the field that a number refers to, its type by number; none where the number refers to none (II.16)

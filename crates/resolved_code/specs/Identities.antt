@@ -3,7 +3,7 @@ use Rattle.std.specs.Prelude.{ℕ, List, map, flat_map}
 use Rattle.cil_model.specs.declared.types.ClassName.{ClassName}
 use Rattle.cil_model.specs.declared.trees.Tree.{Tree}
 use Rattle.cil_model.specs.Declarations.{Declaration}
-use Rattle.name_tables.specs.Inherited.{number_in}
+use Rattle.name_tables.specs.KeyIds.{number_in}
 use Rattle.name_tables.specs.Numbers.{declarations}
 use Rattle.name_tables.specs.Sameness.{MethodIdentity, identity_of, same_identity}
 

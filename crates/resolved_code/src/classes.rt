@@ -4,7 +4,7 @@ ghost use Rattle.std.specs.Prelude.{option_map};
 ghost use Rattle.cil_model.specs.Bodies.{code_of};
 ghost use Rattle.cil_model.specs.declared.trees.MethodKind.{MethodKind};
 ghost use Rattle.cil_model.specs.declared.trees.Tree.{Tree};
-ghost use Rattle.resolved_code.specs.Resolved.{BothAlike, IsBody, IsResolvedKind};
+ghost use Rattle.resolved_code.specs.ResolvedPrograms.{BothAlike, IsBody, IsResolvedKind};
 
 use crate::operations::Operation;
 use crate::types::ResolvedType;

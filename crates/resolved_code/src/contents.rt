@@ -2,7 +2,7 @@
 
 ghost use Rattle.std.specs.Prelude.{◌≡◌, IfOk, option_map, slice_get, option_and_then};
 ghost use Rattle.cil_model.specs.Legality.{IsLegal};
-ghost use Rattle.resolved_code.specs.Resolved.{AreResolved};
+ghost use Rattle.resolved_code.specs.ResolvedPrograms.{AreResolved};
 ghost use Rattle.resolved_code.specs.Contents.{IsContents, IsEntryPoint};
 
 use crate::classes::{ResolvedClass, ResolvedField, ResolvedMethod};

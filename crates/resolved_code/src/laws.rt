@@ -12,7 +12,7 @@ ghost use Rattle.cil_model.specs.Chains.{fields_declared, methods_declared};
 ghost use Rattle.cil_model.specs.Declarations.{Declaration, declaration_of};
 ghost use Rattle.name_tables.specs.Numbers.{class_number, field_at, method_at};
 ghost use Rattle.resolved_code.specs.ById.{class_name};
-ghost use Rattle.resolved_code.specs.Resolved.{IsOperation};
+ghost use Rattle.resolved_code.specs.ResolvedPrograms.{IsOperation};
 ghost use Rattle.resolved_code.specs.declared.operations.Operation.{Operation};
 
 /// Each class that a name refers to has a number, a built-in one too, and each field and each method that it declares is at that

@@ -3,7 +3,7 @@
 ghost use Rattle.std.specs.Prelude.{◌≡◌, option_map};
 ghost use Rattle.cil_model.specs.Legality.{IsLegal};
 ghost use Rattle.cil_model.specs.Mentions.{literals_of};
-ghost use Rattle.resolved_code.specs.Resolved.{AreResolved};
+ghost use Rattle.resolved_code.specs.ResolvedPrograms.{AreResolved};
 ghost use Rattle.resolved_code.specs.Contents.{IsContents, IsFieldOf, IsMethodOf, IsEntryPoint};
 
 use crate::classes::{ResolvedClass, ResolvedField, ResolvedMethod};

@@ -4,7 +4,7 @@ ghost use Rattle.std.specs.Prelude.{◌≡◌, ◌≢◌, IfOk, Err};
 ghost use Rattle.cil_model.specs.Legality.{IsLegal};
 ghost use Rattle.name_tables.specs.Entries.{declaration_in};
 ghost use Rattle.resolved_code.specs.declared.errors.ResolveError.TheVariants.{Unresolved};
-ghost use Rattle.resolved_code.specs.Resolved.{AreResolved};
+ghost use Rattle.resolved_code.specs.ResolvedPrograms.{AreResolved};
 ghost use Rattle.resolved_code.specs.Rules.{class_rule};
 
 use crate::classes::ResolvedClass;

@@ -3,7 +3,7 @@
 ghost use Rattle.std.specs.Prelude.{◌≡◌, ◌⊎◌, ◌+◌, Bool, IfErr, IfOk, OnErr, OnOk, List, [], replicate, string_bytes};
 ghost use Rattle.cil_model.specs.declared.reports.Report.{Report as AnyReport};
 ghost use Rattle.event_trace.specs.interleaving_core.simulation.Transitions.{IsTransition};
-ghost use Rattle.outputs.specs.Taken.{HasGrown};
+ghost use Rattle.outputs.specs.Streams.{HasGrown};
 ghost use Rattle.schedule_text.specs.Items.{events_of};
 ghost use Rattle.event_trace.specs.Deadlocks.{IsDeadlockOf};
 ghost use Rattle.event_trace.specs.MethodPositions.{ArePositionsOf};

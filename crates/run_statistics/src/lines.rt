@@ -2,7 +2,7 @@
 
 ghost use Rattle.std.specs.Prelude.{◌≡◌, ◌++◌, ◌≤◌, OnErr, OnOk};
 ghost use Rattle.cil_model.specs.declared.limits.TheConstants.{MOST_THREADS};
-ghost use Rattle.outputs.specs.Taken.{Fails, Takes};
+ghost use Rattle.outputs.specs.Streams.{Fails, Takes};
 ghost use Rattle.run_statistics.specs.Lines.{heap_words, most_text, statistics_text, steps_text, thread_text, total_text, words_in_use};
 ghost use Rattle.shared_machine.specs.Histories.{events_of, reports_of};
 

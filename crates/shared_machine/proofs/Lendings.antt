@@ -17,7 +17,7 @@ use Rattle.interleaving_core.specs.simulation.Runs.{AreTransitions}
 use Rattle.shared_machine.specs.Codes.{add, add_times}
 use Rattle.shared_machine.specs.Counts.{Count}
 use Rattle.shared_machine.specs.Histories.{IsSmall, entry, events_of, reports_of}
-use Rattle.shared_machine.specs.Worlds.{HasRooms, IsCheckedIn, IsLentOut, IsPrintedWithin, IsSoundWorld, IsWorld, Shown, added_times, book_times, is_lent_in, lent_of, with_entries}
+use Rattle.shared_machine.specs.Worlds.{HasRooms, IsCheckedIn, IsLentOut, IsPrintedWithin, IsSoundWorld, IsWorld, WorldState, added_times, book_times, is_lent_in, lent_of, with_entries}
 use Rattle.shared_machine.specs.declared.history.Entry.{Entry}
 use Rattle.shared_machine.proofs.Histories.{sound_at, sound_more}
 use Rattle.shared_machine.proofs.Moves.{get_same}
@@ -122,7 +122,7 @@ same_tree o workers core h book s = (transitions_program o core (events_of h) (r
 
 -- ---- what a world shows
 
-abbrev pub shown_as : MachineState → List Entry → List ℕ → List Bool → Bool → Shown
+abbrev pub shown_as : MachineState → List Entry → List ℕ → List Bool → Bool → WorldState
 shown_as core h book lent stopped = record { core = core; history = h; book = book; lent = lent; stopped = stopped }
 
 -- nothing was taken where nothing was there

@@ -22,7 +22,7 @@ use Rattle.shared_machine.specs.declared.answer.Answer.TheVariants.{Did, NoMemor
 use Rattle.shared_machine.specs.declared.history.Entry.{Entry}
 
 -- the machine, the history, the book of the workers' counts, of each thread that may be whether it is lent, and the stop mark
-pub record Shown : Type 0 where
+pub record WorldState : Type 0 where
   pub core : MachineState
   pub history : List Entry
   pub book : List ℕ
@@ -84,7 +84,7 @@ abbrev pub add_event : Count → Event → Report → Count
 add_event t e r = record { worker = t.worker; count = add t.count e r }
 
 -- one entry more, with the machine in this state: the count of the ticket's worker in the book includes the entry, and nothing else changes
-abbrev pub with_entry : Shown → Count → Event → Report → MachineState → Shown
+abbrev pub with_entry : WorldState → Count → Event → Report → MachineState → WorldState
 with_entry world t e r core = record {
   core = core;
   history = world.history ++ entry t.worker e r ∷ [];
@@ -94,7 +94,7 @@ with_entry world t e r core = record {
 }
 
 -- an event of a ticket's worker was done, and is recorded and counted with its report
-pub record IsDid (old : Shown) (t : Count) (e : Event) (new : Shown) (r : Report) : Type 0 where
+pub record IsDid (old : WorldState) (t : Count) (e : Event) (new : WorldState) (r : Report) : Type 0 where
   pub transition : IsTransition old.core e (new.core, r)
   pub recorded : new ≡ with_entry old t e r new.core
 
@@ -111,18 +111,18 @@ is_away lent (Ack t) = is_lent_in lent t
 is_away lent Gc = false
 
 -- a thread can't be lent: it is not live, or it is lent already
-abbrev pub CannotLend : Shown → ℕ → Type 0
+abbrev pub CannotLend : WorldState → ℕ → Type 0
 CannotLend world t = (is_live_at world.core.threads t ≡ false) ⊎ (is_lent_in world.lent t ≡ true)
 
 -- a live thread that wasn't lent is lent, and nothing else changes
-pub record IsLentOut (old : Shown) (t : ℕ) (l : Lent) (new : Shown) : Type 0 where
+pub record IsLentOut (old : WorldState) (t : ℕ) (l : Lent) (new : WorldState) : Type 0 where
   pub live : is_live_at old.core.threads t ≡ true
   pub home : is_lent_in old.lent t ≡ false
   pub begins : Begins old.core t l
   pub marked : new ≡ record old { lent = slice_set old.lent t true }
 
 -- the thread of a loan is lent, and stands as it did when the loan began
-abbrev pub IsKept : Shown → Lent → Type 0
+abbrev pub IsKept : WorldState → Lent → Type 0
 IsKept world l = (is_lent_in world.lent l.thread ≡ true) × IsAtOrigin world.core l
 
 -- the ticket after an event n times
@@ -135,7 +135,7 @@ book_times book t zero e r = book
 book_times book t (suc n) e r = slice_set book t.worker (add_times (suc n) t.count e r)
 
 -- n entries more, of steps of a thread that ran, with the machine in this state
-abbrev pub with_steps : Shown → Count → ℕ → (thread : ℕ) → MachineState → Shown
+abbrev pub with_steps : WorldState → Count → ℕ → (thread : ℕ) → MachineState → WorldState
 with_steps world t n thread core = record world {
   core = core;
   history = world.history ++ replicate n (entry t.worker (Step thread) Ran);
@@ -143,11 +143,11 @@ with_steps world t n thread core = record world {
 }
 
 -- the same, and the thread is no longer lent
-abbrev pub with_entries : Shown → Count → ℕ → (thread : ℕ) → MachineState → Shown
+abbrev pub with_entries : WorldState → Count → ℕ → (thread : ℕ) → MachineState → WorldState
 with_entries world t n thread core = record (with_steps world t n thread core) { lent = slice_set world.lent thread false }
 
 -- a loan came back: each of its instructions is a step of its thread, which reports that it ran, and is recorded and counted
-pub record IsCheckedIn (old : Shown) (t : Count) (l : Lent) (n : ℕ) (new : Shown) (u : Count) : Type 0 where
+pub record IsCheckedIn (old : WorldState) (t : Count) (l : Lent) (n : ℕ) (new : WorldState) (u : Count) : Type 0 where
   pub all : n ≡ l.done
   pub kept : IsKept old l
   pub transitions : AreTransitions old.core (replicate n (Step l.thread)) new.core (replicate n Ran)
@@ -156,7 +156,7 @@ pub record IsCheckedIn (old : Shown) (t : Count) (l : Lent) (n : ℕ) (new : Sho
 
 -- A thread did n local instructions where it is: none if it is lent or not live, else all of them up to the first instruction that is not local, at most
 -- `most`. Each is a step of it, which reports that it ran, and is recorded and counted.
-pub record HasSteppedLocally (old : Shown) (t : Count) (thread most n : ℕ) (new : Shown) (u : Count) : Type 0 where
+pub record HasSteppedLocally (old : WorldState) (t : Count) (thread most n : ℕ) (new : WorldState) (u : Count) : Type 0 where
   pub none : CannotLend old thread → n ≡ 0
   pub ran : is_live_at old.core.threads thread ≡ true → is_lent_in old.lent thread ≡ false → RanInPlace old.core thread most n new.core
   pub transitions : AreTransitions old.core (replicate n (Step thread)) new.core (replicate n Ran)

@@ -42,7 +42,7 @@ pub trait Initial: TableName {
 
 impl Initial for Brand {
     ghost use Rattle.std.specs.Prelude.{None};
-    ghost use Rattle.interleaving_core.specs.Beginnings.{no_machine_state};
+    ghost use Rattle.interleaving_core.specs.InitialStates.{no_machine_state};
 
     ghost initial_state = { no_machine_state };
 
@@ -80,9 +80,9 @@ impl<M: Initial> Drop for World<M> {
 }
 
 impl<M: Initial> Model for World<M> {
-    ghost use Rattle.shared_machine.specs.Worlds.{IsWorld, Shown, lent_of};
+    ghost use Rattle.shared_machine.specs.Worlds.{IsWorld, WorldState, lent_of};
 
-    ghost Value = { Shown };
+    ghost Value = { WorldState };
 
     ghost view = { λ w. record { core = w.core; history = w.history.entries; book = w.book; lent = lent_of w.rooms.items; stopped = w.stopped } };
 

@@ -14,12 +14,12 @@ pub mod Counts
 pub mod MachineStates
 pub mod Rooms
 pub mod Sound
-pub mod Collecting
-pub mod Reached
+pub mod CollectorSteps
+pub mod ReachedStates
 pub mod Refines
 pub mod Transitions
-pub mod Ready
-pub mod Lending
+pub mod ReadySteps
+pub mod LentFrames
 pub mod Budgets
 pub mod Runs
-pub mod Retained
+pub mod RetainedObjects

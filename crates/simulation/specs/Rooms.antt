@@ -22,6 +22,6 @@ pub record HasNoRoom (c : MachineState) (s : State) (t : ℕ) : Type 0 where
   pub report : Report
   pub after : State
   pub object : HeapObject
-  pub unrefused : step c.tree c.limits s t false ≡ Answers report after
+  pub without_refusal : step c.tree c.limits s t false ≡ Answers report after
   pub is_born : after.objects ≡ s.objects ++ object ∷ []
   pub exceeds : IsTrue (is_refused (spaces_of c.objects) (own_phase c.posts t) (cell_words c.tree object.contents))

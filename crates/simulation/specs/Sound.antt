@@ -6,7 +6,7 @@ use Rattle.interpreter.specs.object_memory.declared.addresses.Addr.{Addr}
 use Rattle.interpreter.specs.object_memory.declared.values.Value.{Value}
 use Rattle.collector.specs.References.{ValuePasses}
 use Rattle.collector.specs.Soundness.{IsListed, IsSoundHeap}
-use Rattle.collector.specs.Holding.{IsOnTime, may_hold, static_may_hold}
+use Rattle.collector.specs.Holds.{IsOnTime, may_hold, static_may_hold}
 use Rattle.collector.specs.phase_handshake.Handshakes.{AreClose, Handshakes, seat_of}
 use Rattle.collector.specs.phase_handshake.declared.posts.Seat.{Seat}
 use Rattle.interpreter.specs.threads_monitors.Frames.{Frames}

@@ -24,7 +24,7 @@ use Rattle.interpreter.specs.object_memory.declared.values.Value.TheVariants.{Re
 use Rattle.interpreter.specs.object_memory.Objects.{Objects, no_objects}
 use Rattle.interpreter.specs.loaded_program.MethodNumbers.{number_of}
 use Rattle.interpreter.specs.cil_model.ValueKinds.{kind_of_type}
-use Rattle.interpreter.specs.loaded_program.Prepared.{local_kinds}
+use Rattle.interpreter.specs.loaded_program.LocalKinds.{local_kinds}
 use Rattle.interpreter.specs.threads_monitors.Frames.{Frames, new_frame, with_pc, with_stack, zero_value}
 use Rattle.interpreter.specs.threads_monitors.Threads.{join_effect, charge, start_fault, with_start}
 use Rattle.interpreter.specs.threads_monitors.declared.effects.Effect.{Effect}
@@ -37,7 +37,7 @@ use Rattle.interpreter.specs.Instructions.{IsDone, Answer}
 use Rattle.interpreter.specs.declared.outcomes.InstructionOutcome.{InstructionOutcome}
 use Rattle.interpreter.specs.declared.outcomes.InstructionOutcome.TheVariants.{OwnEffect, Starts, Joins}
 use Rattle.simulation.specs.MachineStates.{MachineState, frame_room, mutator_of}
-use Rattle.simulation.specs.Collecting.{collect, with_acknowledgement}
+use Rattle.simulation.specs.CollectorSteps.{collect, with_acknowledgement}
 
 -- ---- the beginning
 

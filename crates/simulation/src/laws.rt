@@ -17,7 +17,7 @@ ghost use Rattle.interpreter.specs.reference_machine.States.{State, is_live, is_
 ghost use Rattle.interpreter.specs.reference_machine.Steps.{step, Answers};
 ghost use Rattle.interpreter.specs.reference_machine.Runs.{IsStateAfter, is_refusal, initial_state};
 ghost use Rattle.interpreter.specs.object_memory.declared.addresses.Addr.{Addr as AnyAddr};
-ghost use Rattle.collector.specs.Marking.{is_closed};
+ghost use Rattle.collector.specs.MarkSteps.{is_closed};
 ghost use Rattle.collector.specs.Phases.{is_marked_address};
 ghost use Rattle.collector.specs.phase_handshake.Handshakes.{IsWaiting, all_seen, is_open, own_phase};
 ghost use Rattle.interpreter.specs.threads_monitors.Frames.{Frame, Frames};
@@ -26,16 +26,16 @@ ghost use Rattle.interpreter.specs.threads_monitors.declared.threads.ThreadStatu
 ghost use Rattle.interpreter.specs.threads_monitors.declared.threads.Thread.{Thread};
 ghost use Rattle.interpreter.specs.Instructions.{IsDone, Answer};
 ghost use Rattle.interpreter.specs.Local.{AreLocalSteps, IsReadySomewhere, frames_over};
-ghost use Rattle.simulation.specs.Lending.{RunsFrame, with_live};
+ghost use Rattle.simulation.specs.LentFrames.{RunsFrame, with_live};
 ghost use Rattle.simulation.specs.MachineStates.{MachineState, frame_room, mutator_of};
-ghost use Rattle.simulation.specs.Retained.{AreCyclesBounded, LeavesOnlyRetained, RetainsAfter};
-ghost use Rattle.simulation.specs.Reached.{IsReached};
+ghost use Rattle.simulation.specs.RetainedObjects.{AreCyclesBounded, LeavesOnlyRetained, RetainsAfter};
+ghost use Rattle.simulation.specs.ReachedStates.{IsReached};
 ghost use Rattle.simulation.specs.Rooms.{HasNoRoom};
 ghost use Rattle.simulation.specs.Runs.{AreSteps, AreTransitions, IsRunOf, RefinesAfter};
 ghost use Rattle.simulation.specs.Sound.{AreSeated, IsSound};
 ghost use Rattle.simulation.specs.Refines.{Represents};
 ghost use Rattle.simulation.specs.Transitions.{IsTransition, initial_machine_state};
-ghost use Rattle.simulation.specs.Ready.{IsReady, IsAnswerable};
+ghost use Rattle.simulation.specs.ReadySteps.{IsReady, IsAnswerable};
 
 /// What a machine holds before its first event represents the initial state of its program.
 pub fn initial_states_represent()
@@ -141,7 +141,7 @@ pub fn a_cycle_leaves_what_is_retained()
 
 /// There are words that are retained from the beginning of a run's newest cycle on, whatever comes later; where a run ends a cycle, it has a newest one; and no
 /// other number of words is retained.
-pub fn cycles_have_what_they_owe()
+pub fn each_cycle_has_retained_words()
     ensures begun { (tree : Tree) → IsAccepted tree → (limits : Limits) → IsTrue (are_in_range limits) → (events : List Event) (reports : List Report) (s : State) → IsRunOf tree limits events reports s →
         (earlier later : List (Event × Report)) → BeginsNewestCycle (zip events reports) earlier later → (words : ℕ) × RetainsAfter tree limits events reports words }
     ensures ended { (tree : Tree) → IsAccepted tree → (limits : Limits) → IsTrue (are_in_range limits) → (events : List Event) (reports : List Report) (s : State) → IsRunOf tree limits events reports s →

@@ -9,7 +9,7 @@ use Rattle.cil_model.specs.declared.events.Event.{Event}
 use Rattle.cil_model.specs.declared.limits.Limits.{Limits}
 use Rattle.cil_model.specs.declared.trees.Tree.{Tree}
 use Rattle.cil_model.specs.declared.reports.Report.{Report}
-use Rattle.shared_machine.specs.simulation.Retained.{AreCyclesBounded}
+use Rattle.shared_machine.specs.simulation.RetainedObjects.{AreCyclesBounded}
 use Rattle.shared_machine.specs.simulation.Runs.{IsRunOf}
 use Rattle.shared_machine.specs.simulation.MachineStates.{MachineState}
 use Rattle.reference_machine.specs.States.{State}
@@ -17,7 +17,7 @@ use Rattle.schedule_text.specs.Items.{words}
 use Rattle.schedule_text.specs.Readings.{AreRead, IsFirstFault}
 use Rattle.schedule_text.specs.declared.errors.ScheduleError.{ScheduleError}
 use Rattle.acceptance.specs.Failures.{failure_of_schedule}
-use Rattle.acceptance.specs.Sources.{HasRunTo, IsAcceptedSource, IsLetIn, IsNotRun, IsOpened}
+use Rattle.acceptance.specs.Sources.{HasRunTo, IsAcceptedSource, HasAcceptedTree, IsNotRun, IsOpened}
 use Rattle.acceptance.specs.declared.failure.Failure.{Failure}
 
 -- a machine has run by a text: it has done the first of the events that the text writes, and all of them unless the run was stopped
@@ -34,7 +34,7 @@ IsBadSchedule text failure = (error : ScheduleError) × IsFirstFault (words text
 -- why no machine has run by a text: what lets no list of events run, then the text
 abbrev pub IsNotRunBy : List ℕ → Limits → List ℕ → Failure → Type 0
 IsNotRunBy source limits text failure = IsNotRun source limits failure
-    ⊎ (IsLetIn source × (are_in_range limits ≡ true) × IsBadSchedule text failure)
+    ⊎ (HasAcceptedTree source × (are_in_range limits ≡ true) × IsBadSchedule text failure)
 
 -- A run of a list of events results in a state. The bytes have a tree that is an accepted program, and the reference machine's run over
 -- the steps among the events is never stuck. No thread made more steps than its budget has, and one that made exactly its budget has ended. Each cycle had few

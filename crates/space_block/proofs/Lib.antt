@@ -1,5 +1,5 @@
 pub mod SharedReferences
-pub mod Places
+pub mod Slots
 pub mod Values
 pub mod Walks
 pub mod WordSequences

@@ -15,14 +15,14 @@ use denote.Struct.Declared as Declared
 use denote.Struct.Tuple.{Tuple, tuple_type}
 
 -- a struct by its fields alone: what it owns does not read its name
-abbrev plainly : List RattleType → RattleType
-plainly Rs = Struct (record { name = []; args = []; types = []; fields = Rs })
+abbrev unnamed_struct : List RattleType → RattleType
+unnamed_struct Rs = Struct (record { name = []; args = []; types = []; fields = Rs })
 
 abbrev pub front_val : Ptr → Val
 front_val p = vstruct (vcons (ptr_val p) vnil)
 
 abbrev pub front_own : Ptr → List Val → Fml
-front_own p = (plainly (RawPtr ∷ [])).own_val (p, tt)
+front_own p = (unnamed_struct (RawPtr ∷ [])).own_val (p, tt)
 
 pub front_decoded : (p : Ptr) (vs : List Val) → shadow (front_own p vs) → vs ≡ front_val p ∷ []
 front_decoded p vs s = s.1.0 ∙ (λ i. vstruct (of_list (s.1.1.0 i ++ [])) ∷ [])
@@ -34,7 +34,7 @@ abbrev pub bare_val : Val
 bare_val = vstruct vnil
 
 abbrev pub bare_own : List Val → Fml
-bare_own = (plainly []).own_val tt
+bare_own = (unnamed_struct []).own_val tt
 
 pub bare_decoded : (vs : List Val) → shadow (bare_own vs) → vs ≡ bare_val ∷ []
 bare_decoded vs s = s.1.0
@@ -46,7 +46,7 @@ abbrev pub lease_val : Val
 lease_val = vstruct (vcons (vstruct vnil) vnil)
 
 abbrev pub lease_own : List Val → Fml
-lease_own = (plainly (plainly [] ∷ [])).own_val (tt, tt)
+lease_own = (unnamed_struct (unnamed_struct [] ∷ [])).own_val (tt, tt)
 
 pub lease_decoded : (vs : List Val) → shadow (lease_own vs) → vs ≡ lease_val ∷ []
 lease_decoded vs s = s.1.0 ∙ (λ i. vstruct (of_list (s.1.1.0.1.0 i ++ [])) ∷ [])

@@ -6,7 +6,7 @@ use Rattle.std.proofs.Math.Seq.{take-set-lt, take-append_seam}
 use Rattle.std.proofs.lemmas.List.{length-map, map-set, get_or-map, get_or_append_left, get_or-take, map-append, set-append_left, set-append_right, length-take-le, length-drop, length-replicate, replicate_more, replicate-append-replicate}
 use lib.Seq.{drop-cons}
 use Rattle.space_block.specs.Rows.{blank}
-use Rattle.space_block.specs.Written.{AreWritten, row_of, written_words}
+use Rattle.space_block.specs.WrittenWords.{AreWritten, row_of, written_words}
 
 pub written_some : (xs : List ℕ) → written_words (map Some xs) ≡ xs
 written_some [] = refl
@@ -15,21 +15,21 @@ written_some (x ∷ xs) = ap (λ ys. x ∷ ys) (written_some xs)
 abbrev zero_words : ℕ → List ℕ
 zero_words n = replicate n 0
 
-abbrev zero_places : ℕ → List (Option ℕ)
-zero_places n = replicate n (Some 0)
+abbrev zero_slots : ℕ → List (Option ℕ)
+zero_slots n = replicate n (Some 0)
 
-map-zeros : (n : ℕ) → map Some (zero_words n) ≡ zero_places n
+map-zeros : (n : ℕ) → map Some (zero_words n) ≡ zero_slots n
 map-zeros zero = refl
 map-zeros (suc n) = ap (λ ys. Some 0 ∷ ys) (map-zeros n)
 
 -- the slots with 0 in those from `from` on and below `to`
 abbrev pub cleared : List (Option ℕ) → ℕ → ℕ → List (Option ℕ)
-cleared cs from to = take from cs ++ zero_places (to - from) ++ drop to cs
+cleared cs from to = take from cs ++ zero_slots (to - from) ++ drop to cs
 
 -- one slot more
 pub cleared_more : (cs : List (Option ℕ)) (from i : ℕ) → from ≤ i → i < length cs → set (cleared cs from i) i (Some 0) ≡ cleared cs from (i + 1)
 cleared_more cs from i le lt =
-    let front = take from cs in let zeros : List (Option ℕ) = zero_places (i - from) in
+    let front = take from cs in let zeros : List (Option ℕ) = zero_slots (i - from) in
     let long : length (front ++ zeros) ≡ i =
     omega (arith, le, lt, length-append front zeros, length-take-le from cs (omega (arith, le, lt)), length-replicate {A = Option ℕ} (i - from) (Some 0)) in
     let first : i - i ≡ 0 = omega arith in
@@ -42,11 +42,11 @@ cleared_more cs from i le lt =
     ∙ sym (append_assoc (front ++ zeros) (Some 0 ∷ []) (drop (i + 1) cs))
     ∙ ap (λ ds. ds ++ drop (i + 1) cs) (append_assoc front zeros (Some 0 ∷ []))
     ∙ ap (λ ds. front ++ ds ++ drop (i + 1) cs) (replicate_more (i - from) (Some 0))
-    ∙ ap (λ k. front ++ zero_places k ++ drop (i + 1) cs) next
+    ∙ ap (λ k. front ++ zero_slots k ++ drop (i + 1) cs) next
 
 pub length-cleared : (cs : List (Option ℕ)) (from to : ℕ) → from ≤ to → to ≤ length cs → length (cleared cs from to) ≡ length cs
 length-cleared cs from to le inside =
-    let front = take from cs in let zeros : List (Option ℕ) = zero_places (to - from) in
+    let front = take from cs in let zeros : List (Option ℕ) = zero_slots (to - from) in
     omega (
       arith,
       le,
@@ -96,13 +96,13 @@ module _ (cs : List (Option ℕ)) (used : ℕ) (full : AreWritten cs used) (insi
 
   -- the next slots come into use
   module _ (m : ℕ) (more : used ≤ m) (within : m ≤ length cs) where
-    long : length (take used cs ++ zero_places (m - used)) ≡ m
+    long : length (take used cs ++ zero_slots (m - used)) ≡ m
     long =
         omega (
           arith,
           more,
           within,
-          length-append (take used cs) (zero_places (m - used)),
+          length-append (take used cs) (zero_slots (m - used)),
           length-take-le used cs inside,
           length-replicate {A = Option ℕ} (m - used) (Some 0),
         )
@@ -111,8 +111,8 @@ module _ (cs : List (Option ℕ)) (used : ℕ) (full : AreWritten cs used) (insi
     extended =
         holds (cleared cs used m) m (written_words (take used cs) ++ zero_words (m - used))
         (ap (λ k. take k (cleared cs used m)) (sym long)
-        ∙ take-append_seam (take used cs ++ zero_places (m - used)) (drop m cs)
-        ∙ ap (λ ds. ds ++ zero_places (m - used)) full
+        ∙ take-append_seam (take used cs ++ zero_slots (m - used)) (drop m cs)
+        ∙ ap (λ ds. ds ++ zero_slots (m - used)) full
         ∙ ap (λ ds. map Some (written_words (take used cs)) ++ ds) (sym (map-zeros (m - used)))
         ∙ sym (map-append Some (written_words (take used cs)) (zero_words (m - used))))
 

@@ -1,3 +1,3 @@
 pub mod Memory
 pub mod Rows
-pub mod Written
+pub mod WrittenWords

@@ -18,14 +18,14 @@ abbrev pub FitsBlock : ℕ → Type 0
 FitsBlock n = n * word_size < 2 ^ 63
 
 -- a word slot, o bytes into the block b: it holds a word, or is room for one
-abbrev pub place : ℕ → ℕ → Option ℕ → Fml
-place b o (Some w) = part_at u64 full_share w b o
-place b o None = froom (ty_int w64) b o
+abbrev pub slot : ℕ → ℕ → Option ℕ → Fml
+slot b o (Some w) = part_at u64 full_share w b o
+slot b o None = froom (ty_int w64) b o
 
 -- consecutive slots
-abbrev pub places : ℕ → ℕ → List (Option ℕ) → Fml
-places b o [] = ftrue
-places b o (c ∷ cs) = fsep (place b o c) (places b (o + word_size) cs)
+abbrev pub slots : ℕ → ℕ → List (Option ℕ) → Fml
+slots b o [] = ftrue
+slots b o (c ∷ cs) = fsep (slot b o c) (slots b (o + word_size) cs)
 
 abbrev pub lent_word : ℕ → ℕ → Option ℕ → Lft → Fml
 lent_word b o (Some w) = shared_of u64 w b o
@@ -40,7 +40,7 @@ fit cs = flt (length cs * word_size) (2 ^ 63)
 
 -- the slots from a pointer on
 abbrev pub words_owned : Ptr → List (Option ℕ) → Fml
-words_owned (block_ptr b o) cs = fsep (fit cs) (places b o cs)
+words_owned (block_ptr b o) cs = fsep (fit cs) (slots b o cs)
 words_owned null_ptr cs = ffalse
 
 -- what a `&` to their owner has

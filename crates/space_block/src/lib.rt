@@ -29,13 +29,13 @@ pub struct Block {
 impl Model for Block {
     ghost use Rattle.std.specs.Prelude.{◌≡◌, ◌≤◌, length};
     ghost use Rattle.space_block.specs.Rows.{Row};
-    ghost use Rattle.space_block.specs.Written.{AreWritten, row_of};
+    ghost use Rattle.space_block.specs.WrittenWords.{AreWritten, row_of};
 
     ghost Value = { Row };
 
-    ghost view = { λ b. row_of b.words.places b.used };
+    ghost view = { λ b. row_of b.words.slots b.used };
 
-    ghost invariant = { λ b. (b.words.at ≡ b.front.start) × AreWritten b.words.places b.used × (b.used ≤ b.count) × (b.count ≡ length b.words.places)
+    ghost invariant = { λ b. (b.words.at ≡ b.front.start) × AreWritten b.words.slots b.used × (b.used ≤ b.count) × (b.count ≡ length b.words.slots)
         × (b.lease.at ≡ b.front.start) × (b.lease.count ≡ b.count) × (b.lease.alloc ≡ b.alloc) };
 }
 

@@ -3,7 +3,7 @@
 ghost use Rattle.std.specs.Prelude.{◌≡◌, ◌-◌, ◌<◌, ◌≤◌, ◌++◌, ℕ, List, Option, Some, None, length, take, drop, replicate, get_or, slice_set, IfOk};
 ghost use denote.RawPtr.{Ptr};
 ghost use Rattle.space_block.specs.Memory.{FitsBlock, words_owned, words_lent};
-ghost use Rattle.space_block.specs.Written.{IsWritten};
+ghost use Rattle.space_block.specs.WrittenWords.{IsWritten};
 
 use std::alloc::{AllocError, Allocator};
 use std::marker::{Model, PhantomData, Send, Sync};
@@ -23,13 +23,13 @@ unsafe impl Sync for Front {}
 /// The owner of the words at a front. It takes no space.
 pub(crate) struct Words {
     ghost at: { Ptr },
-    ghost places: { List (Option ℕ) },
+    ghost slots: { List (Option ℕ) },
 }
 
 impl Model for Words {
-    ghost also_owns = { λ w. words_owned w.at w.places };
+    ghost also_owns = { λ w. words_owned w.at w.slots };
 
-    ghost also_shares = { λ w _ κ. words_lent w.at w.places κ };
+    ghost also_shares = { λ w _ κ. words_lent w.at w.slots κ };
 }
 
 // The words go where their owner goes.
@@ -65,7 +65,7 @@ pub(crate) fn take<A: Allocator>(
     count: usize,
 ) -> Result<(Front, Words, Lease<A>), AllocError>
     requires { FitsBlock count }
-    ensures { IfOk result (λ r. (r.1.at ≡ r.0.start) × (r.1.places ≡ replicate count None) × (r.2.at ≡ r.0.start) × (r.2.count ≡ count) × (r.2.alloc ≡ alloc.now)) }
+    ensures { IfOk result (λ r. (r.1.at ≡ r.0.start) × (r.1.slots ≡ replicate count None) × (r.2.at ≡ r.0.start) × (r.2.count ≡ count) × (r.2.alloc ≡ alloc.now)) }
 {
     match alloc.allocate(count * size_of::<u64>(), align_of::<u64>()) {
         Ok(block) => {
@@ -86,7 +86,7 @@ pub(crate) fn give_back<A: Allocator>(
     words: Words,
     lease: Lease<A>,
 )
-    requires { (words.at ≡ front.start) × (length words.places ≡ count) × (lease.at ≡ front.start) × (lease.count ≡ count) × (lease.alloc ≡ alloc.now) }
+    requires { (words.at ≡ front.start) × (length words.slots ≡ count) × (lease.at ≡ front.start) × (lease.count ≡ count) × (lease.alloc ≡ alloc.now) }
 {
     let Words {} = words;
     let Lease { mark: _ } = lease;
@@ -101,28 +101,28 @@ pub(crate) fn give_back<A: Allocator>(
 
 impl Words {
     /// The word at an offset that holds one.
-    pub(crate) fn read(&self, front: Front, place: usize) -> u64
-        requires { (front.start ≡ self.now.at) × IsWritten self.now.places place }
-        ensures { get_or self.now.places place None ≡ Some result }
+    pub(crate) fn read(&self, front: Front, index: usize) -> u64
+        requires { (front.start ≡ self.now.at) × IsWritten self.now.slots index }
+        ensures { get_or self.now.slots index None ≡ Some result }
     {
-        unsafe { *front.start.add(place) }
+        unsafe { *front.start.add(index) }
     }
 
     /// Stores a word at an offset.
-    pub(crate) fn write(&mut self, front: Front, place: usize, word: u64)
-        requires { (front.start ≡ self.old.at) × (place < length self.old.places) }
-        ensures { (self.new.at ≡ self.old.at) × (self.new.places ≡ slice_set self.old.places place (Some word)) }
+    pub(crate) fn write(&mut self, front: Front, index: usize, word: u64)
+        requires { (front.start ≡ self.old.at) × (index < length self.old.slots) }
+        ensures { (self.new.at ≡ self.old.at) × (self.new.slots ≡ slice_set self.old.slots index (Some word)) }
     {
-        unsafe { *front.start.add(place) = word };
+        unsafe { *front.start.add(index) = word };
     }
 
     /// Stores 0 in each slot from `from` on and below `to`.
     pub(crate) fn clear(&mut self, front: Front, from: usize, to: usize)
-        requires { (front.start ≡ self.old.at) × (from ≤ to) × (to ≤ length self.old.places) }
-        ensures { (self.new.at ≡ self.old.at) × (self.new.places ≡ take from self.old.places ++ replicate (to - from) (Some 0) ++ drop to self.old.places) }
+        requires { (front.start ≡ self.old.at) × (from ≤ to) × (to ≤ length self.old.slots) }
+        ensures { (self.new.at ≡ self.old.at) × (self.new.slots ≡ take from self.old.slots ++ replicate (to - from) (Some 0) ++ drop to self.old.slots) }
     {
-        for place in from..to {
-            self.write(front, place, 0);
+        for index in from..to {
+            self.write(front, index, 0);
         }
     }
 }

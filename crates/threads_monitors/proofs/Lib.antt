@@ -1,4 +1,4 @@
-pub mod Rows
+pub mod ValueStacks
 pub mod ReplacedReferences
 pub mod Upward
 pub mod Memories

@@ -14,9 +14,9 @@ use Rattle.object_memory.specs.declared.values.Value.{Value}
 use Rattle.cil_model.specs.declared.values.ValueKind.{ValueKind}
 use Rattle.threads_monitors.specs.declared.frames.Activation.{Activation}
 use Rattle.threads_monitors.specs.Frames.{Frame, Frames, size, zero_value, new_frame, with_pc, with_stack, with_argument, with_local, with_call, with_running, return_frames}
-use Rattle.threads_monitors.specs.Activations.{Lays, Fit, IsSoundStack, visible_frames, activation, activations, frame_of, row, lowest, moved_to, with_constructed}
+use Rattle.threads_monitors.specs.Activations.{Lays, Fit, IsSoundStack, visible_frames, activation, activations, frame_of, value_stack, lowest, moved_to, with_constructed}
 use Rattle.threads_monitors.specs.Roots.{values_of, reference_in, frames_upward, roots, with_reference, frame_with_references, with_references}
-use Rattle.threads_monitors.proofs.Rows as rows
+use Rattle.threads_monitors.proofs.ValueStacks as value_stacks
 use Rattle.threads_monitors.proofs.ReplacedReferences as replacing
 use Rattle.threads_monitors.proofs.Upward as upward
 
@@ -29,13 +29,13 @@ holds : (values : List Value) (running : Activation) (below : List Activation) (
     → Lays values running (reverse below) f fs → Fit room (f ∷ fs) → length below + 1 ≤ depth → depth * room ≤ capacity → depth ≤ most_below + 1
     → Holds values running below depth room capacity most_below (record { running = f; below = fs; depth = depth; room = room })
 holds values running below depth room capacity most_below f fs l fit few large deep =
-    let top = rows.running_shown values running (reverse below) f fs l in
-    let rest = rows.below_shown values running (reverse below) f fs l in
+    let top = value_stacks.running_shown values running (reverse below) f fs l in
+    let rest = value_stacks.below_shown values running (reverse below) f fs l in
     record {
       view = rw (top, rest) refl;
       sound = record {
-        lays = rows.lays_shown values running (reverse below) f fs l;
-        fit = rows.fit_shown values running (reverse below) f fs l room fit;
+        lays = value_stacks.lays_shown values running (reverse below) f fs l;
+        fit = value_stacks.fit_shown values running (reverse below) f fs l room fit;
         few = few;
         large = large;
         deep = deep;
@@ -83,13 +83,13 @@ module _ (values : List Value) (running : Activation) (below : List Activation) 
   -- room for n values more in the running frame
   pub has_room : (n : ℕ) → size f + n ≤ room → length values + n ≤ capacity
   has_room n fits =
-      rows.room_above values running (reverse below) f fs s.lays room depth capacity s.fit
+      value_stacks.room_above values running (reverse below) f fs s.lays room depth capacity s.fit
       (omega (arith, count_below, s.few)) s.large n fits
 
   pub after_push : (v : Value) → size f < room → Holds (values ++ v ∷ []) running below depth room capacity most_below (with_stack m (v ∷ f.stack))
   after_push v less =
       holds (values ++ v ∷ []) running below depth room capacity most_below (record f { stack = v ∷ f.stack }) fs
-      (rows.pushed values running (reverse below) f fs s.lays v) (omega (arith, less), s.fit.1) s.few s.large s.deep
+      (value_stacks.pushed values running (reverse below) f fs s.lays v) (omega (arith, less), s.fit.1) s.few s.large s.deep
 
   -- the topmost value is taken
   pub record Popped (new : List Value) (v : Value) : Type 0 where
@@ -103,7 +103,7 @@ module _ (values : List Value) (running : Activation) (below : List Activation) 
       by : (stack : List Value) → f.stack ≡ stack → Popped new v
       by [] e = let none = rw e at some in absurd (omega (arith, none))
       by (x ∷ xs) e =
-          let t = rows.topped values running (reverse below) f fs s.lays x xs e in
+          let t = value_stacks.topped values running (reverse below) f fs s.lays x xs e in
           let same = same_from_push new t.rest v x (sym split ∙ t.split) in
           let long = ap length e in
           let first = s.fit.0 in
@@ -123,31 +123,31 @@ module _ (values : List Value) (running : Activation) (below : List Activation) 
 
   pub argument_at : (i : ℕ) → i < length f.arguments → IsAt f.arguments i (running.arguments + i)
   argument_at i less = record {
-    inside = rows.argument_inside values running (reverse below) f fs s.lays i less;
-    read = λ v is. rows.argument_read values running (reverse below) f fs s.lays i v less ∙ ap Some (sym is);
+    inside = value_stacks.argument_inside values running (reverse below) f fs s.lays i less;
+    read = λ v is. value_stacks.argument_read values running (reverse below) f fs s.lays i v less ∙ ap Some (sym is);
   }
 
   pub local_at : (i : ℕ) → i < length f.locals → IsAt f.locals i (running.locals + i)
   local_at i less = record {
-    inside = rows.local_inside values running (reverse below) f fs s.lays i less;
-    read = λ v is. rows.local_read values running (reverse below) f fs s.lays i v less ∙ ap Some (sym is);
+    inside = value_stacks.local_inside values running (reverse below) f fs s.lays i less;
+    read = λ v is. value_stacks.local_read values running (reverse below) f fs s.lays i v less ∙ ap Some (sym is);
   }
 
   pub operand_at : (i : ℕ) → i < length f.stack → IsAt f.stack i (length values - 1 - i)
   operand_at i less = record {
-    inside = omega (arith, less, rows.length_values values running (reverse below) f fs s.lays);
-    read = λ v is. rows.operand_read values running (reverse below) f fs s.lays i v less ∙ ap Some (sym is);
+    inside = omega (arith, less, value_stacks.length_values values running (reverse below) f fs s.lays);
+    read = λ v is. value_stacks.operand_read values running (reverse below) f fs s.lays i v less ∙ ap Some (sym is);
   }
 
   -- the index of a value below the topmost ones is in the value stack
   pub index_below : (n : ℕ) → n ≤ length f.stack → n ≤ length values
-  index_below n less = omega (arith, less, rows.length_values values running (reverse below) f fs s.lays)
+  index_below n less = omega (arith, less, value_stacks.length_values values running (reverse below) f fs s.lays)
 
   pub after_insert : (n : ℕ) (v : Value) → n ≤ length f.stack → size f < room → Holds (insert values (length values - n) v) running below depth room capacity most_below (with_stack m (take n f.stack ++ v ∷ drop n f.stack))
   after_insert n v there less =
       let long = length_inserted n f.stack v there in
       holds (insert values (length values - n) v) running below depth room capacity most_below (record f { stack = take n f.stack ++ v ∷ drop n f.stack }) fs
-      (rows.inserted values running (reverse below) f fs s.lays n v there) (omega (arith, less, long), s.fit.1) s.few s.large s.deep
+      (value_stacks.inserted values running (reverse below) f fs s.lays n v there) (omega (arith, less, long), s.fit.1) s.few s.large s.deep
     where
       length_inserted : (n : ℕ) (xs : List Value) (v : Value) → n ≤ length xs → length (take n xs ++ v ∷ drop n xs) ≡ length xs + 1
       length_inserted zero xs v h = omega arith
@@ -163,17 +163,17 @@ module _ (values : List Value) (running : Activation) (below : List Activation) 
   pub after_argument : (i : ℕ) (v : Value) → i < length f.arguments → Holds (set values (running.arguments + i) v) running below depth room capacity most_below (with_argument m i v)
   after_argument i v less =
       holds (set values (running.arguments + i) v) running below depth room capacity most_below (record f { arguments = set f.arguments i v }) fs
-      (rows.argument_stored values running (reverse below) f fs s.lays i v less) (rw length-set s.fit.0, s.fit.1) s.few s.large s.deep
+      (value_stacks.argument_stored values running (reverse below) f fs s.lays i v less) (rw length-set s.fit.0, s.fit.1) s.few s.large s.deep
 
   pub after_local : (i : ℕ) (v : Value) → i < length f.locals → Holds (set values (running.locals + i) v) running below depth room capacity most_below (with_local m i v)
   after_local i v less =
       holds (set values (running.locals + i) v) running below depth room capacity most_below (record f { locals = set f.locals i v }) fs
-      (rows.local_stored values running (reverse below) f fs s.lays i v less) (rw length-set s.fit.0, s.fit.1) s.few s.large s.deep
+      (value_stacks.local_stored values running (reverse below) f fs s.lays i v less) (rw length-set s.fit.0, s.fit.1) s.few s.large s.deep
 
   -- room for the locals of a method that is called
   pub has_room_for_call : (n k : ℕ) → length fs + 1 < depth → n + k ≤ room → length values + k ≤ capacity
   has_room_for_call n k more fits =
-      rows.room_for_call values running (reverse below) f fs s.lays room depth capacity s.fit more s.large k (omega (arith, fits))
+      value_stacks.room_for_call values running (reverse below) f fs s.lays room depth capacity s.fit more s.large k (omega (arith, fits))
 
   -- room for a further frame
   pub has_depth : length fs + 1 < depth → length below < most_below
@@ -194,7 +194,7 @@ module _ (values : List Value) (running : Activation) (below : List Activation) 
       holds (values ++ map zero_value kinds) new (below ++ running ∷ []) depth room capacity most_below
       (new_frame method (reverse (take n f.stack)) kinds object) (record f { stack = drop n f.stack } ∷ fs)
       (subst (λ b. Lays (values ++ map zero_value kinds) new b (new_frame method (reverse (take n f.stack)) kinds object) (record f { stack = drop n f.stack } ∷ fs)) (sym order)
-      (rows.called values running (reverse below) f fs s.lays method n kinds object less))
+      (value_stacks.called values running (reverse below) f fs s.lays method n kinds object less))
       (omega (arith, count, taken, fits), (omega (arith, first, left), s.fit.1))
       (omega (arith, long, count_below, more)) s.large s.deep
     where
@@ -225,7 +225,7 @@ module _ (values : List Value) (running : Activation) (below : List Activation) 
           let long : length below ≡ length rest + 1 = ap length e ∙ length-append rest (next ∷ []) in
           subst (λ x. Holds (take running.arguments values) next rest depth room capacity most_below x) (sym (returned_is (g ∷ gs) g gs here refl))
           (holds (take running.arguments values) next rest depth room capacity most_below g gs
-          (rows.back values running next (reverse rest) f g gs laid) fit.1 (omega (arith, long, s.few)) s.large s.deep)
+          (value_stacks.back values running next (reverse rest) f g gs laid) fit.1 (omega (arith, long, s.few)) s.large s.deep)
 
   -- ---- the references
 
@@ -238,7 +238,7 @@ module _ (values : List Value) (running : Activation) (below : List Activation) 
 
   -- an activation, and what callers see of its frame
   pub record IsActivationAt (n : ℕ) (a : Activation) : Type 0 where
-    pub begins : a.arguments ≡ length (row (lowest n (f ∷ fs)))
+    pub begins : a.arguments ≡ length (value_stack (lowest n (f ∷ fs)))
     pub constructed : option_map (λ (x : Frame). x.constructed) (slice_get (frames_upward m) n) ≡ Some a.constructed
 
   activation_at : (n : ℕ) (a : Activation) → slice_get (below ++ running ∷ []) n ≡ Some a → IsActivationAt n a
@@ -252,22 +252,22 @@ module _ (values : List Value) (running : Activation) (below : List Activation) 
   pub last_at : (n : ℕ) → n ≡ length below → IsActivationAt n running
   last_at n last = activation_at n running (ap (slice_get (below ++ running ∷ [])) last ∙ last_is_there below running)
 
-  pub ends_at : (n : ℕ) → n ≡ length below + 1 → length values ≡ length (row (lowest n (f ∷ fs)))
+  pub ends_at : (n : ℕ) → n ≡ length below + 1 → length values ≡ length (value_stack (lowest n (f ∷ fs)))
   ends_at n all =
       let every : n ≡ length (f ∷ fs) = omega (arith, all, count_below) in
       ap length s.lays.values_are
-      ∙ ap (λ gs. length (row gs)) (sym (upward.lowest_all (f ∷ fs)))
-      ∙ ap (λ k. length (row (lowest k (f ∷ fs)))) (sym every)
+      ∙ ap (λ gs. length (value_stack gs)) (sym (upward.lowest_all (f ∷ fs)))
+      ∙ ap (λ k. length (value_stack (lowest k (f ∷ fs)))) (sym every)
 
-  pub part_at : (n : ℕ) → n ≤ length fs → option_map values_of (slice_get (frames_upward m) n) ≡ Some (take (length (row (lowest (n + 1) (f ∷ fs))) - length (row (lowest n (f ∷ fs)))) (drop (length (row (lowest n (f ∷ fs)))) values))
+  pub part_at : (n : ℕ) → n ≤ length fs → option_map values_of (slice_get (frames_upward m) n) ≡ Some (take (length (value_stack (lowest (n + 1) (f ∷ fs))) - length (value_stack (lowest n (f ∷ fs)))) (drop (length (value_stack (lowest n (f ∷ fs)))) values))
   part_at n few =
       let part = upward.part_is (f ∷ fs) n (omega (arith, few)) in
-      part ∙ ap (λ xs. Some (take (length (row (lowest (n + 1) (f ∷ fs))) - length (row (lowest n (f ∷ fs)))) (drop (length (row (lowest n (f ∷ fs)))) xs))) (sym s.lays.values_are)
+      part ∙ ap (λ xs. Some (take (length (value_stack (lowest (n + 1) (f ∷ fs))) - length (value_stack (lowest n (f ∷ fs)))) (drop (length (value_stack (lowest n (f ∷ fs)))) xs))) (sym s.lays.values_are)
 
-  pub part_within : (n : ℕ) → n ≤ length fs → (length (row (lowest n (f ∷ fs))) ≤ length (row (lowest (n + 1) (f ∷ fs)))) × (length (row (lowest (n + 1) (f ∷ fs))) ≤ length values)
+  pub part_within : (n : ℕ) → n ≤ length fs → (length (value_stack (lowest n (f ∷ fs))) ≤ length (value_stack (lowest (n + 1) (f ∷ fs)))) × (length (value_stack (lowest (n + 1) (f ∷ fs))) ≤ length values)
   part_within n few =
       let less : n < length (f ∷ fs) = omega (arith, few) in
-      (upward.in_order (f ∷ fs) n less, subst (λ xs. length (row (lowest (n + 1) (f ∷ fs))) ≤ length xs) (sym s.lays.values_are) (upward.within_row (f ∷ fs) n less))
+      (upward.in_order (f ∷ fs) n less, subst (λ xs. length (value_stack (lowest (n + 1) (f ∷ fs))) ≤ length xs) (sym s.lays.values_are) (upward.within_row (f ∷ fs) n less))
 
   -- what holds of the roots holds of each reference in the memory
   pub record Reaches (P : Addr → Type 0) : Type 0 where
@@ -278,7 +278,7 @@ module _ (values : List Value) (running : Activation) (below : List Activation) 
   pub reaches : (P : Addr → Type 0) → All P (roots m) → Reaches P
   reaches P h =
       let apart = replacing.roots_apart P (f ∷ fs) h in
-      let there = replacing.all_where_some P reference_in (row (f ∷ fs)) apart.0 in
+      let there = replacing.all_where_some P reference_in (value_stack (f ∷ fs)) apart.0 in
       let made = replacing.all_where_some P (λ (a : Activation). a.constructed) (activations (f ∷ fs)) apart.1 in
       let holds_of : Activation → Type 0 = λ a. IfSome a.constructed P in
       record {
@@ -317,33 +317,33 @@ module _ (values : List Value) (running : Activation) (below : List Activation) 
   abbrev other : Frames
   other = visible_frames values' running' below' depth' room'
 
-  starts : running.arguments ≡ length (row old.below)
+  starts : running.arguments ≡ length (value_stack old.below)
   starts = ap (λ (a : Activation). a.arguments) s.lays.running_is
 
-  starts' : running'.arguments ≡ length (row other.below)
+  starts' : running'.arguments ≡ length (value_stack other.below)
   starts' = ap (λ (a : Activation). a.arguments) s'.lays.running_is
 
-  locals' : running'.locals ≡ length (row other.below) + length other.running.arguments
+  locals' : running'.locals ≡ length (value_stack other.below) + length other.running.arguments
   locals' = ap (λ (a : Activation). a.locals) s'.lays.running_is
 
-  stack' : running'.stack ≡ length (row other.below) + (length other.running.arguments + length other.running.locals)
+  stack' : running'.stack ≡ length (value_stack other.below) + (length other.running.arguments + length other.running.locals)
   stack' = ap (λ (a : Activation). a.stack) s'.lays.running_is
 
   pub in_order : (running'.arguments ≤ running'.locals) × (running'.locals ≤ running'.stack)
   in_order = (omega (arith, starts', locals'), omega (arith, locals', stack'))
 
-  kept : take running.arguments values ≡ row old.below
-  kept = ap (λ n. take n values) starts ∙ ap (take (length (row old.below))) s.lays.values_are ∙ take-append_seam (row old.below) (values_of old.running)
+  kept : take running.arguments values ≡ value_stack old.below
+  kept = ap (λ n. take n values) starts ∙ ap (take (length (value_stack old.below))) s.lays.values_are ∙ take-append_seam (value_stack old.below) (values_of old.running)
 
   taken : drop running'.arguments values' ≡ values_of other.running
-  taken = ap (λ n. drop n values') starts' ∙ ap (drop (length (row other.below))) s'.lays.values_are ∙ drop-append_seam (row other.below) (values_of other.running)
+  taken = ap (λ n. drop n values') starts' ∙ ap (drop (length (value_stack other.below))) s'.lays.values_are ∙ drop-append_seam (value_stack other.below) (values_of other.running)
 
   -- room for all of it
   pub room_for_other : length (take running.arguments values) + length (drop running'.arguments values') ≤ capacity
   room_for_other =
       let count = count_below values running below depth room capacity most_below s in
-      let less = rows.length-row room old.below s.fit.1 in
-      let long = ap length taken ∙ rows.length-values_of other.running in
+      let less = value_stacks.length-value_stack room old.below s.fit.1 in
+      let long = ap length taken ∙ value_stacks.length-values_of other.running in
       let few = s.few in
       let own = s'.fit.0 in
       let all : (length old.below + 1) * room ≤ depth * room = mul-le (length old.below + 1) room depth room (omega (arith, count, few)) (omega arith) in
@@ -353,17 +353,17 @@ module _ (values : List Value) (running : Activation) (below : List Activation) 
 
   moved_is : moved_to running.arguments running' ≡ activation old.below other.running
   moved_is =
-      let first : running.arguments + (running'.locals - running'.arguments) ≡ length (row old.below) + length other.running.arguments = omega (arith, starts, starts', locals') in
-      let second : running.arguments + (running'.stack - running'.arguments) ≡ length (row old.below) + (length other.running.arguments + length other.running.locals) = omega (arith, starts, starts', stack') in
+      let first : running.arguments + (running'.locals - running'.arguments) ≡ length (value_stack old.below) + length other.running.arguments = omega (arith, starts, starts', locals') in
+      let second : running.arguments + (running'.stack - running'.arguments) ≡ length (value_stack old.below) + (length other.running.arguments + length other.running.locals) = omega (arith, starts, starts', stack') in
       (λ i. record running' { arguments = starts i; locals = first i; stack = second i })
-      ∙ ap (λ (a : Activation). record a { arguments = length (row old.below); locals = length (row old.below) + length other.running.arguments; stack = length (row old.below) + (length other.running.arguments + length other.running.locals) }) s'.lays.running_is
+      ∙ ap (λ (a : Activation). record a { arguments = length (value_stack old.below); locals = length (value_stack old.below) + length other.running.arguments; stack = length (value_stack old.below) + (length other.running.arguments + length other.running.locals) }) s'.lays.running_is
 
   pub after_set : Holds (take running.arguments values ++ drop running'.arguments values') (moved_to running.arguments running') below depth room capacity most_below (with_running old other.running)
   after_set =
       let own = s'.fit.0 in
       holds (take running.arguments values ++ drop running'.arguments values') (moved_to running.arguments running') below depth room capacity most_below other.running old.below
       (record {
-        values_are = ap (λ xs. xs ++ drop running'.arguments values') kept ∙ ap (λ xs. row old.below ++ xs) taken;
+        values_are = ap (λ xs. xs ++ drop running'.arguments values') kept ∙ ap (λ xs. value_stack old.below ++ xs) taken;
         running_is = moved_is;
         below_are = s.lays.below_are;
       })
@@ -381,20 +381,20 @@ module _ (values : List Value) (running : Activation) (below : List Activation) 
   pub own_values : drop running.arguments values ≡ values_of (visible_frames values running below depth room).running
   own_values =
       ap (λ n. drop n values) (ap (λ (a : Activation). a.arguments) s.lays.running_is)
-      ∙ ap (drop (length (row (visible_frames values running below depth room).below))) s.lays.values_are
-      ∙ drop-append_seam (row (visible_frames values running below depth room).below) (values_of (visible_frames values running below depth room).running)
+      ∙ ap (drop (length (value_stack (visible_frames values running below depth room).below))) s.lays.values_are
+      ∙ drop-append_seam (value_stack (visible_frames values running below depth room).below) (values_of (visible_frames values running below depth room).running)
 
   own_activation : moved_to 0 running ≡ activation [] (visible_frames values running below depth room).running
   own_activation =
       let g = (visible_frames values running below depth room).running in
       let gs = (visible_frames values running below depth room).below in
-      let starts : running.arguments ≡ length (row gs) = ap (λ (a : Activation). a.arguments) s.lays.running_is in
-      let locals : running.locals ≡ length (row gs) + length g.arguments = ap (λ (a : Activation). a.locals) s.lays.running_is in
-      let stack : running.stack ≡ length (row gs) + (length g.arguments + length g.locals) = ap (λ (a : Activation). a.stack) s.lays.running_is in
+      let starts : running.arguments ≡ length (value_stack gs) = ap (λ (a : Activation). a.arguments) s.lays.running_is in
+      let locals : running.locals ≡ length (value_stack gs) + length g.arguments = ap (λ (a : Activation). a.locals) s.lays.running_is in
+      let stack : running.stack ≡ length (value_stack gs) + (length g.arguments + length g.locals) = ap (λ (a : Activation). a.stack) s.lays.running_is in
       let first : 0 + (running.locals - running.arguments) ≡ 0 + length g.arguments = omega (arith, starts, locals) in
       let second : 0 + (running.stack - running.arguments) ≡ 0 + (length g.arguments + length g.locals) = omega (arith, starts, stack) in
       (λ i. record running { arguments = 0; locals = first i; stack = second i })
       ∙ ap (λ (a : Activation). record a { arguments = 0; locals = 0 + length g.arguments; stack = 0 + (length g.arguments + length g.locals) }) s.lays.running_is
 
   pub own_frame : frame_of (drop running.arguments values) (moved_to 0 running) ≡ (visible_frames values running below depth room).running
-  own_frame = ap (λ xs. frame_of xs (moved_to 0 running)) own_values ∙ ap (frame_of (values_of (visible_frames values running below depth room).running)) own_activation ∙ rows.frame_there [] (visible_frames values running below depth room).running
+  own_frame = ap (λ xs. frame_of xs (moved_to 0 running)) own_values ∙ ap (frame_of (values_of (visible_frames values running below depth room).running)) own_activation ∙ value_stacks.frame_there [] (visible_frames values running below depth room).running

@@ -13,7 +13,7 @@ use Rattle.object_memory.specs.declared.values.Value.TheVariants.{Int32, Int64, 
 use Rattle.threads_monitors.specs.declared.frames.Activation.{Activation}
 use Rattle.threads_monitors.specs.Frames.{Frame, Frames}
 use Rattle.threads_monitors.specs.Roots.{IsAnswer, frames_upward, values_of, reference_in, frame_roots, roots, with_reference, frame_with_references, with_references}
-use Rattle.threads_monitors.specs.Activations.{row, activation, activations, with_constructed, Lays, Fit}
+use Rattle.threads_monitors.specs.Activations.{value_stack, activation, activations, with_constructed, Lays, Fit}
 
 pub map-reverse : {A B : Type 0} (f : A → B) (xs : List A) → map f (reverse xs) ≡ reverse (map f xs)
 map-reverse f [] = refl
@@ -38,21 +38,21 @@ module _ (g : Addr → Addr) where
       ∙ ap (λ xs. map value f.arguments ++ xs) (map-append value f.locals (reverse f.stack)
       ∙ ap (λ xs. map value f.locals ++ xs) (map-reverse value f.stack))
 
-  row_replaced : (fs : List Frame) → map value (row fs) ≡ row (map frame fs)
-  row_replaced [] = refl
-  row_replaced (f ∷ fs) =
-      map-append value (row fs) (values_of f)
-      ∙ ap (λ xs. xs ++ map value (values_of f)) (row_replaced fs)
-      ∙ ap (λ xs. row (map frame fs) ++ xs) (values_replaced f)
+  value_stack_replaced : (fs : List Frame) → map value (value_stack fs) ≡ value_stack (map frame fs)
+  value_stack_replaced [] = refl
+  value_stack_replaced (f ∷ fs) =
+      map-append value (value_stack fs) (values_of f)
+      ∙ ap (λ xs. xs ++ map value (values_of f)) (value_stack_replaced fs)
+      ∙ ap (λ xs. value_stack (map frame fs) ++ xs) (values_replaced f)
 
-  length_row : (fs : List Frame) → length (row fs) ≡ length (row (map frame fs))
-  length_row fs = sym (length-map (row fs) value) ∙ ap length (row_replaced fs)
+  length_value_stack : (fs : List Frame) → length (value_stack fs) ≡ length (value_stack (map frame fs))
+  length_value_stack fs = sym (length-map (value_stack fs) value) ∙ ap length (value_stack_replaced fs)
 
   activation_replaced : (fs : List Frame) (f : Frame) → with_constructed g (activation fs f) ≡ activation (map frame fs) (frame f)
   activation_replaced fs f =
       let arguments : length f.arguments ≡ length (map value f.arguments) = sym (length-map f.arguments value) in
       let locals : length f.locals ≡ length (map value f.locals) = sym (length-map f.locals value) in
-      rw (← length_row fs, ← arguments, ← locals) refl
+      rw (← length_value_stack fs, ← arguments, ← locals) refl
 
   activations_replaced : (fs : List Frame) → map (with_constructed g) (activations fs) ≡ activations (map frame fs)
   activations_replaced [] = refl
@@ -65,7 +65,7 @@ module _ (g : Addr → Addr) where
       → Lays (map value values) (with_constructed g running) (map (with_constructed g) below) (frame f) (map frame fs)
   lays_replaced values running below f fs l =
       record {
-        values_are = ap (map value) l.values_are ∙ row_replaced (f ∷ fs);
+        values_are = ap (map value) l.values_are ∙ value_stack_replaced (f ∷ fs);
         running_is = ap (with_constructed g) l.running_is ∙ activation_replaced fs f;
         below_are = ap (map (with_constructed g)) l.below_are ∙ activations_replaced fs;
       }
@@ -147,7 +147,7 @@ module _ (P : Addr → Type 0) where
       each (x ∷ xs) k = let both = one (h x) (filter_map h xs) k in (both.0, each xs both.1)
 
   abbrev AreBoth : List Frame → Type 0
-  AreBoth fs = All P (filter_map reference_in (row fs)) × All P (filter_map (λ (a : Activation). a.constructed) (activations fs))
+  AreBoth fs = All P (filter_map reference_in (value_stack fs)) × All P (filter_map (λ (a : Activation). a.constructed) (activations fs))
 
   pub roots_apart : (fs : List Frame) → All P (flat_map frame_roots (reverse fs)) → AreBoth fs
   roots_apart [] h = (h, h)
@@ -160,8 +160,8 @@ module _ (P : Addr → Type 0) where
       let lower = roots_apart fs (all_of_first (flat_map frame_roots (reverse fs)) (frame_roots f) split) in
       let own = all_of_second (flat_map frame_roots (reverse fs)) (frame_roots f) split in
       let values = filter_map reference_in (values_of f) in (
-        subst (All P) (sym (filter_map-append reference_in (row fs) (values_of f)))
-            (All-append P (filter_map reference_in (row fs)) values lower.0 (all_of_first values (option_to_list f.constructed) own)),
+        subst (All P) (sym (filter_map-append reference_in (value_stack fs) (values_of f)))
+            (All-append P (filter_map reference_in (value_stack fs)) values lower.0 (all_of_first values (option_to_list f.constructed) own)),
         all_with_option f.constructed (filter_map (λ (a : Activation). a.constructed) (activations fs)) (all_of_second values (option_to_list f.constructed) own) lower.1,
       )
 

@@ -10,7 +10,7 @@ use Rattle.object_memory.specs.declared.values.Value.{Value}
 use Rattle.threads_monitors.specs.declared.frames.Activation.{Activation}
 use Rattle.threads_monitors.specs.Frames.{Frame}
 use Rattle.threads_monitors.specs.Roots.{values_of}
-use Rattle.threads_monitors.specs.Activations.{row, activation, activations, lowest}
+use Rattle.threads_monitors.specs.Activations.{value_stack, activation, activations, lowest}
 use Rattle.threads_monitors.proofs.ReplacedReferences.{map-reverse}
 
 -- ---- lists that are read from their end
@@ -76,7 +76,7 @@ pub length-activations : (fs : List Frame) → length (activations fs) ≡ lengt
 length-activations [] = refl
 length-activations (f ∷ fs) = ap suc (length-activations fs)
 
-pub begins_there : (gs : List Frame) (n : ℕ) (a : Activation) → slice_get (reverse (activations gs)) n ≡ Some a → a.arguments ≡ length (row (lowest n gs))
+pub begins_there : (gs : List Frame) (n : ℕ) (a : Activation) → slice_get (reverse (activations gs)) n ≡ Some a → a.arguments ≡ length (value_stack (lowest n gs))
 begins_there [] n a e = none_is_some a e
 begins_there (g ∷ gs) n a e = by (λ h. begins_there gs n a h) (cases_lt n (length gs))
   where
@@ -88,15 +88,15 @@ begins_there (g ∷ gs) n a e = by (λ h. begins_there gs n a h) (cases_lt n (le
         let less = slice_get_within (reverse (activations (g ∷ gs))) n a e in
         omega (arith, less, length-reverse (activations (g ∷ gs)))
 
-    by : (slice_get (reverse (activations gs)) n ≡ Some a → a.arguments ≡ length (row (lowest n gs))) → (n < length gs) ⊎ (length gs ≤ n) → a.arguments ≡ length (row (lowest n (g ∷ gs)))
+    by : (slice_get (reverse (activations gs)) n ≡ Some a → a.arguments ≡ length (value_stack (lowest n gs))) → (n < length gs) ⊎ (length gs ≤ n) → a.arguments ≡ length (value_stack (lowest n (g ∷ gs)))
     by lower (inl front) =
         lower (sym (upward_front (activation gs g) (activations gs) n (omega (arith, front, long))) ∙ e)
-        ∙ ap (λ xs. length (row xs)) (sym (lowest_below g gs n (omega (arith, front))))
+        ∙ ap (λ xs. length (value_stack xs)) (sym (lowest_below g gs n (omega (arith, front))))
     by lower (inr last) =
         let same : n ≡ length (activations gs) = omega (arith, within, last, long) in
         let own = same_Some a (activation gs g) (sym e ∙ ap (λ k. slice_get (reverse (activations (g ∷ gs))) k) same ∙ upward_last (activation gs g) (activations gs)) in
         let one : length (g ∷ gs) - n ≡ 1 = omega (arith, same, long) in
-        ap (λ (x : Activation). x.arguments) own ∙ sym (ap (λ k. length (row (drop k (g ∷ gs)))) one)
+        ap (λ (x : Activation). x.arguments) own ∙ sym (ap (λ k. length (value_stack (drop k (g ∷ gs)))) one)
 
 pub constructed_there : (gs : List Frame) (n : ℕ) (a : Activation) → slice_get (reverse (activations gs)) n ≡ Some a → option_map (λ (f : Frame). f.constructed) (slice_get (reverse gs) n) ≡ Some a.constructed
 constructed_there gs n a e =
@@ -113,45 +113,45 @@ constructed_there gs n a e =
 
 record Above (gs : List Frame) (k : ℕ) : Type 0 where
   pub rest : List Value
-  pub row_is : row gs ≡ row (drop k gs) ++ rest
+  pub row_is : value_stack gs ≡ value_stack (drop k gs) ++ rest
 
 above : (gs : List Frame) (k : ℕ) → Above gs k
-above gs zero = record { rest = []; row_is = sym (append-nil (row gs)) }
+above gs zero = record { rest = []; row_is = sym (append-nil (value_stack gs)) }
 above [] (suc k) = record { rest = []; row_is = refl }
 above (g ∷ gs) (suc k) =
     let lower = above gs k in
-    record { rest = lower.rest ++ values_of g; row_is = ap (λ xs. xs ++ values_of g) lower.row_is ∙ append_assoc (row (drop k gs)) lower.rest (values_of g) }
+    record { rest = lower.rest ++ values_of g; row_is = ap (λ xs. xs ++ values_of g) lower.row_is ∙ append_assoc (value_stack (drop k gs)) lower.rest (values_of g) }
 
 module _ (gs : List Frame) (n : ℕ) (less : n < length gs) where
   abbrev begin : ℕ
-  begin = length (row (lowest n gs))
+  begin = length (value_stack (lowest n gs))
 
   abbrev end : ℕ
-  end = length (row (lowest (n + 1) gs))
+  end = length (value_stack (lowest (n + 1) gs))
 
   pub in_order : begin ≤ end
   in_order =
       let next = next_frame gs n less in
-      let both = ap (λ xs. length (row xs)) next.more ∙ length-append (row (lowest n gs)) (values_of next.frame) in
+      let both = ap (λ xs. length (value_stack xs)) next.more ∙ length-append (value_stack (lowest n gs)) (values_of next.frame) in
       omega (arith, both)
 
-  pub within_row : end ≤ length (row gs)
+  pub within_row : end ≤ length (value_stack gs)
   within_row =
       let rest = above gs (length gs - (n + 1)) in
-      let both = ap length rest.row_is ∙ length-append (row (lowest (n + 1) gs)) rest.rest in
+      let both = ap length rest.row_is ∙ length-append (value_stack (lowest (n + 1) gs)) rest.rest in
       omega (arith, both)
 
-  pub part_is : option_map values_of (slice_get (reverse gs) n) ≡ Some (take (end - begin) (drop begin (row gs)))
+  pub part_is : option_map values_of (slice_get (reverse gs) n) ≡ Some (take (end - begin) (drop begin (value_stack gs)))
   part_is =
       let next = next_frame gs n less in
       let rest = above gs (length gs - (n + 1)) in
-      let low = row (lowest n gs) in
+      let low = value_stack (lowest n gs) in
       let own = values_of next.frame in
-      let split : row gs ≡ low ++ (own ++ rest.rest) = rest.row_is ∙ ap (λ xs. row xs ++ rest.rest) next.more ∙ append_assoc low own rest.rest in
-      let both = ap (λ xs. length (row xs)) next.more ∙ length-append low own in
+      let split : value_stack gs ≡ low ++ (own ++ rest.rest) = rest.row_is ∙ ap (λ xs. value_stack xs ++ rest.rest) next.more ∙ append_assoc low own rest.rest in
+      let both = ap (λ xs. length (value_stack xs)) next.more ∙ length-append low own in
       let many : end - begin ≡ length own = omega (arith, both) in
       ap (option_map values_of) next.upward
-      ∙ ap Some (sym (ap (λ k. take k (drop begin (row gs))) many
+      ∙ ap Some (sym (ap (λ k. take k (drop begin (value_stack gs))) many
       ∙ ap (λ xs. take (length own) (drop (length low) xs)) split
       ∙ ap (take (length own)) (drop-append_seam low (own ++ rest.rest))
       ∙ take-append_seam own rest.rest))

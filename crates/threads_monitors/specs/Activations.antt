@@ -7,9 +7,9 @@ use Rattle.threads_monitors.specs.Frames.{Frame, Frames, size}
 use Rattle.threads_monitors.specs.Roots.{values_of}
 
 -- the values of all frames, the running one's last
-abbrev pub row : List Frame → List Value
-row [] = []
-row (f ∷ fs) = row fs ++ values_of f
+abbrev pub value_stack : List Frame → List Value
+value_stack [] = []
+value_stack (f ∷ fs) = value_stack fs ++ values_of f
 
 -- where a frame's values lie, above those of the frames below it
 abbrev pub activation : List Frame → Frame → Activation
@@ -17,9 +17,9 @@ activation fs f = record {
   method = f.method;
   pc = f.pc;
   constructed = f.constructed;
-  arguments = length (row fs);
-  locals = length (row fs) + length f.arguments;
-  stack = length (row fs) + (length f.arguments + length f.locals);
+  arguments = length (value_stack fs);
+  locals = length (value_stack fs) + length f.arguments;
+  stack = length (value_stack fs) + (length f.arguments + length f.locals);
 }
 
 abbrev pub activations : List Frame → List Activation
@@ -44,7 +44,7 @@ frames_of values (a ∷ rest) = frame_of values a ∷ frames_of (take a.argument
 
 -- the value stack and the activations are those of these frames
 pub record Lays (values : List Value) (running : Activation) (below : List Activation) (f : Frame) (fs : List Frame) : Type 0 where
-  pub values_are : values ≡ row (f ∷ fs)
+  pub values_are : values ≡ value_stack (f ∷ fs)
   pub running_is : running ≡ activation fs f
   pub below_are : below ≡ activations fs
 

@@ -64,7 +64,7 @@ impl Model for FrameMemory {
 impl FrameMemory {
     ghost use Rattle.threads_monitors.specs.Frames.{size, new_frame, return_frames, with_argument, with_call, with_inserted, with_local, with_pc, with_running, with_stack};
     ghost use Rattle.threads_monitors.specs.Roots.{frames_upward, roots, values_of, with_references};
-    ghost use Rattle.threads_monitors.specs.Activations.{lowest, row};
+    ghost use Rattle.threads_monitors.specs.Activations.{lowest, value_stack};
     ghost use Rattle.object_memory.specs.declared.values.Value.{Value};
 
     /// The memory of a thread that begins with a frame of the method, with these arguments and with zeros in locals of
@@ -302,7 +302,7 @@ impl FrameMemory {
         self.values.truncate(start);
         push_values(
             &mut self.values,
-            following(&other.values, other.running.arguments),
+            values_from(&other.values, other.running.arguments),
         );
         self.running = move_activation(other.running, start);
     }
@@ -313,8 +313,8 @@ impl FrameMemory {
     {
         is_same_activation(self.running, other.running)
             && are_same(
-                following(&self.values, self.running.arguments),
-                following(&other.values, other.running.arguments),
+                values_from(&self.values, self.running.arguments),
+                values_from(&other.values, other.running.arguments),
             )
     }
 
@@ -354,7 +354,7 @@ impl FrameMemory {
     /// The activation of a frame, the first one's at 0.
     fn activation(&self, frame: usize) -> &Activation
         requires { frame ≤ length self.now.below }
-        ensures begins { result.now.arguments ≡ length (row (lowest frame (self.now.running ∷ self.now.below))) }
+        ensures begins { result.now.arguments ≡ length (value_stack (lowest frame (self.now.running ∷ self.now.below))) }
         ensures constructed { option_map (λ f. f.constructed) (slice_get (frames_upward self.now) frame) ≡ Some result.now.constructed }
     {
         match self.below.get(frame) {
@@ -366,7 +366,7 @@ impl FrameMemory {
     /// Where the values of a frame end in the value stack.
     fn end_of(&self, frame: usize) -> usize
         requires { frame ≤ length self.now.below }
-        ensures { result ≡ length (row (lowest (frame + 1) (self.now.running ∷ self.now.below))) }
+        ensures { result ≡ length (value_stack (lowest (frame + 1) (self.now.running ∷ self.now.below))) }
     {
         if frame < self.below.len() {
             self.activation(frame + 1).arguments
@@ -425,11 +425,11 @@ fn push_values(values: &mut Vec<Value>, more: &[Value])
 }
 
 /// The values of a list from an index on.
-fn following(row: &[Value], start: usize) -> &[Value]
-    requires { start ≤ length row.now }
-    ensures { result.now ≡ drop start row.now }
+fn values_from(values: &[Value], start: usize) -> &[Value]
+    requires { start ≤ length values.now }
+    ensures { result.now ≡ drop start values.now }
 {
-    &row[start..]
+    &values[start..]
 }
 
 /// The activation of the same frame where its values begin at another index of the value stack.
@@ -473,12 +473,12 @@ fn is_same_activation(one: Activation, other: Activation) -> bool
 }
 
 /// The values of a list from one index to another.
-fn part(row: &[Value], start: usize, end: usize) -> &[Value]
+fn part(values: &[Value], start: usize, end: usize) -> &[Value]
     requires order { start ≤ end }
-    requires within { end ≤ length row.now }
-    ensures { result.now ≡ take (end - start) (drop start row.now) }
+    requires within { end ≤ length values.now }
+    ensures { result.now ≡ take (end - start) (drop start values.now) }
 {
-    &row[start..end]
+    &values[start..end]
 }
 
 /// Replaces each reference among the values by what `change` returns for it.

@@ -195,12 +195,12 @@ pub(crate) fn alike(one: StackEntry, other: StackEntry) -> Option<(&'static str,
     } else {
         let above = if one.is_int32() { 0 } else { 1 };
         let longer = if above == 0 { other } else { one };
-        Some((narrowing(longer)?, above))
+        Some((length_conversion(longer)?, above))
     }
 }
 
 /// The instructions that make an int32 of a length or of an array.
-fn narrowing(entry: StackEntry) -> Option<&'static str> {
+fn length_conversion(entry: StackEntry) -> Option<&'static str> {
     if is_native(entry) {
         Some("conv.i4")
     } else if is_array(entry) {

@@ -7,11 +7,11 @@ use Rattle.cil_model.specs.declared.trees.Method.{Method}
 use Rattle.cil_model.specs.Assignable.{type_of_class}
 use Rattle.cil_model.specs.Bodies.{argument_types}
 use Rattle.cil_model.specs.Chains.{is_static}
-use Rattle.flow_rules.specs.Named.{type_named, types_named}
+use Rattle.flow_rules.specs.StackTypes.{type_named, types_named}
 use Rattle.flow_rules.proofs.MemberLaws.{types_are_named}
 use Rattle.resolved_code.specs.declared.classes.ResolvedMethod.{ResolvedMethod}
 use Rattle.resolved_code.specs.declared.types.ResolvedType.{ResolvedType}
-use Rattle.resolved_code.specs.Resolved.{IsResolvedMethod}
+use Rattle.resolved_code.specs.ResolvedPrograms.{IsResolvedMethod}
 
 module _ (tree : Tree) (owner : ClassName) (m : Method) (found : ResolvedMethod) (is : IsResolvedMethod tree m found) where
   parameters_named : types_named tree found.parameters ≡ m.signature.parameters

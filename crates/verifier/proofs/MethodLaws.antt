@@ -9,12 +9,12 @@ use Rattle.cil_model.specs.Bodies.{argument_types, code_of}
 use Rattle.cil_model.specs.Declarations.{Declaration}
 use Rattle.cil_model.specs.Typings.{Typing, IsTypingOf}
 use Rattle.flow_rules.specs.declared.entries.StackEntry.{StackEntry}
-use Rattle.flow_rules.specs.Named.{type_named, types_named}
+use Rattle.flow_rules.specs.StackTypes.{type_named, types_named}
 use Rattle.flow_rules.proofs.MemberLaws.{return_is_named}
 use Rattle.name_tables.specs.declared.ids.MethodId.{MethodId}
 use Rattle.name_tables.specs.Numbers.{declarations, method_at}
 use Rattle.resolved_code.specs.Contents.{IsMethodOf}
-use Rattle.resolved_code.specs.Resolved.{BothAlike, IsBody, IsResolvedMethod}
+use Rattle.resolved_code.specs.ResolvedPrograms.{BothAlike, IsBody, IsResolvedMethod}
 use Rattle.resolved_code.specs.declared.classes.Body.{Body}
 use Rattle.resolved_code.specs.declared.classes.ResolvedMethod.{ResolvedMethod}
 use Rattle.resolved_code.specs.declared.types.ResolvedType.{ResolvedType}

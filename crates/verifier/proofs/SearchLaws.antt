@@ -8,7 +8,7 @@ use Rattle.std.proofs.lemmas.Option.{slice_get-map, same_Some}
 use Rattle.std.proofs.lemmas.Int.{ints}
 use Rattle.cil_model.specs.declared.trees.Tree.{Tree}
 use Rattle.cil_model.specs.Typings.{Typing}
-use Rattle.flow_rules.specs.Named.{stack_type, stack_types}
+use Rattle.flow_rules.specs.StackTypes.{stack_type, stack_types}
 use Rattle.flow_rules.specs.declared.entries.StackEntry.{StackEntry}
 use Rattle.verifier.specs.StackMerges.{AreMerged}
 use Rattle.verifier.specs.Rises.{stack_rises, row_rises, table_rises, most_values}

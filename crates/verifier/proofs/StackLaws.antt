@@ -8,7 +8,7 @@ use Rattle.cil_model.specs.TypeTree.{StackType, IsBelow, IsMerge}
 use Rattle.cil_model.specs.Typings.{AreBelow}
 use Rattle.cil_model.proofs.Lists.{none_is_some}
 use Rattle.cil_model.proofs.BelowLaws.{reflexive, transitive}
-use Rattle.flow_rules.specs.Named.{stack_type, stack_types}
+use Rattle.flow_rules.specs.StackTypes.{stack_type, stack_types}
 use Rattle.flow_rules.specs.Merging.{IsMerged}
 use Rattle.flow_rules.specs.declared.entries.StackEntry.{StackEntry}
 use Rattle.verifier.specs.StackMerges.{AreMerged, AreApart, IsEntryMerge, IsStackMerge}

@@ -13,14 +13,14 @@ use Rattle.cil_model.specs.TypeTree.{StackType}
 use Rattle.cil_model.specs.FlowRules.{StackAfter, flow}
 use Rattle.cil_model.specs.Typings.{Typing, IsCodeTyping}
 use Rattle.cil_model.specs.Legality.{IsLegal}
-use Rattle.resolved_code.specs.Resolved.{IsOperation}
+use Rattle.resolved_code.specs.ResolvedPrograms.{IsOperation}
 use Rattle.resolved_code.specs.declared.operations.Operation.{Operation}
-use Rattle.flow_rules.specs.Named.{type_named, types_named, stack_types}
+use Rattle.flow_rules.specs.StackTypes.{type_named, types_named, stack_types}
 use Rattle.flow_rules.specs.Flow.{flow_of}
 use Rattle.flow_rules.specs.declared.entries.StackEntry.{StackEntry}
 use Rattle.flow_rules.specs.declared.method_types.MethodTypes.{MethodTypes}
 use Rattle.resolved_code.proofs.ListLaws.RelatedLists.{AlikeTo, alike_to, alike_beyond, alike_length}
-use Rattle.verifier.specs.Rises.{table_rises, most_values, natural}
+use Rattle.verifier.specs.Rises.{table_rises, most_values, as_natural}
 use Rattle.verifier.specs.Ways.{ways_on}
 use Rattle.verifier.specs.Tables.{IsPending, HasRisen, CannotRise, AreWays}
 use Rattle.verifier.specs.Answers.{typing_of, work_left, count_pending, IsWhole, IsResultAt, IsRise, IsRisen, AreOf, IsOnTheWay, IsVisit, IsLeastTyping, IsTypingAnswer}
@@ -191,15 +191,15 @@ rise_whole tree max_stack after ways old new (Err e) w h = tt
 
 -- ---- .maxstack
 
-pub natural_is : (z : ℤ) (n : ℕ) → natural z ≡ Some n → pos n ≡ z
+pub natural_is : (z : ℤ) (n : ℕ) → as_natural z ≡ Some n → pos n ≡ z
 natural_is (pos k) n e = ap pos (sym (same_Some k n e))
 natural_is (negsuc k) n e = none_is_some n e
 
-pub no_natural : (z : ℤ) (n : ℕ) → natural z ≡ None → pos n ≤ℤ z → ⊥
+pub no_natural : (z : ℤ) (n : ℕ) → as_natural z ≡ None → pos n ≤ℤ z → ⊥
 no_natural (pos k) n e h = none_is_some k (sym e)
 no_natural (negsuc k) n e h = grind (arith, ints, h)
 
-pub none_is_low : (tree : Tree) (taken_types : List DeclaredType) (given : Option DeclaredType) (code : Code) (z : ℤ) → z ≡ code.max_stack → natural z ≡ None → (typing : Typing) → IsCodeTyping tree taken_types given code typing → ⊥
+pub none_is_low : (tree : Tree) (taken_types : List DeclaredType) (given : Option DeclaredType) (code : Code) (z : ℤ) → z ≡ code.max_stack → as_natural z ≡ None → (typing : Typing) → IsCodeTyping tree taken_types given code typing → ⊥
 none_is_low tree taken_types given code z same e typing t = no_natural z 0 e (subst (λ (k : ℤ). pos 0 ≤ℤ k) (sym same) (t.height 0 [] t.start))
 
 -- a failure is returned for code without a typing

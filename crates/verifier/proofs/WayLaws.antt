@@ -8,7 +8,7 @@ use Rattle.cil_model.specs.declared.trees.Tree.{Tree}
 use Rattle.cil_model.specs.declared.trees.Code.{Code}
 use Rattle.cil_model.specs.declared.trees.Line.{Line}
 use Rattle.cil_model.specs.Bodies.{pc_of, falls_through, labels_of}
-use Rattle.resolved_code.specs.Resolved.{IsOperation, no_operation, load_int32, load_int64, load_null, load_string, load_argument, store_argument, load_local, store_local, duplicate, pop, binary, unary, shift, compare, convert_int32, convert_int64, branch, switch, load_field, store_field, load_static_field, store_static_field, new_array, load_length, load_element, store_element, cast_class, is_instance, call, call_virtual, new_object, return}
+use Rattle.resolved_code.specs.ResolvedPrograms.{IsOperation, no_operation, load_int32, load_int64, load_null, load_string, load_argument, store_argument, load_local, store_local, duplicate, pop, binary, unary, shift, compare, convert_int32, convert_int64, branch, switch, load_field, store_field, load_static_field, store_static_field, new_array, load_length, load_element, store_element, cast_class, is_instance, call, call_virtual, new_object, return}
 use Rattle.resolved_code.specs.declared.operations.Operation.{Operation}
 use Rattle.verifier.specs.Ways.{falls, targets, ways_on}
 use Rattle.verifier.specs.Tables.{AreWays}

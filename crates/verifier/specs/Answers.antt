@@ -6,10 +6,10 @@ use Rattle.cil_model.specs.declared.trees.Code.{Code}
 use Rattle.cil_model.specs.FlowRules.{StackAfter}
 use Rattle.cil_model.specs.Typings.{Typing, IsCodeTyping}
 use Rattle.cil_model.specs.declared.trees.Line.{Line}
-use Rattle.resolved_code.specs.Resolved.{AllAlike, IsOperation}
+use Rattle.resolved_code.specs.ResolvedPrograms.{AllAlike, IsOperation}
 use Rattle.resolved_code.specs.declared.operations.Operation.{Operation}
 use Rattle.flow_rules.specs.declared.method_types.MethodTypes.{MethodTypes}
-use Rattle.flow_rules.specs.Named.{type_named, types_named, stack_types}
+use Rattle.flow_rules.specs.StackTypes.{type_named, types_named, stack_types}
 use Rattle.verifier.specs.StackMerges.{AreMerged, AreApart}
 use Rattle.verifier.specs.declared.merging.StackMerge.{StackMerge}
 use Rattle.flow_rules.specs.declared.entries.StackEntry.{StackEntry}

@@ -1,7 +1,7 @@
 pub mod Members
 pub mod Verdicts
 pub mod Numbers
-pub mod Kept
+pub mod KeptStacks
 pub mod StackMerges
 pub mod Rises
 pub mod Ways

@@ -42,6 +42,6 @@ most_values (pos n) = n
 most_values (negsuc n) = 0
 
 -- a number of values, where it is one
-abbrev pub natural : ℤ → Option ℕ
-natural (pos n) = Some n
-natural (negsuc n) = None
+abbrev pub as_natural : ℤ → Option ℕ
+as_natural (pos n) = Some n
+as_natural (negsuc n) = None

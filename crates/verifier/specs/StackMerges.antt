@@ -3,7 +3,7 @@ use Rattle.std.specs.Prelude.{List, Result, Ok, Err}
 use Rattle.cil_model.specs.declared.trees.Tree.{Tree}
 use Rattle.cil_model.specs.TypeTree.{StackType, IsBelow, IsMerge}
 use Rattle.cil_model.specs.Typings.{AreBelow}
-use Rattle.flow_rules.specs.Named.{stack_type, stack_types}
+use Rattle.flow_rules.specs.StackTypes.{stack_type, stack_types}
 use Rattle.flow_rules.specs.declared.entries.StackEntry.{StackEntry}
 use Rattle.verifier.specs.declared.merging.EntryMerge.{EntryMerge}
 use Rattle.verifier.specs.declared.merging.StackMerge.{StackMerge}

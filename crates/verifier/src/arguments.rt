@@ -7,8 +7,8 @@ ghost use Rattle.cil_model.specs.declared.trees.MethodKind.{MethodKind};
 ghost use Rattle.cil_model.specs.declared.types.ClassName.{ClassName};
 ghost use Rattle.cil_model.specs.Bodies.{argument_types};
 ghost use Rattle.cil_model.specs.Chains.{is_static};
-ghost use Rattle.flow_rules.specs.Named.{types_named};
-ghost use Rattle.resolved_code.specs.Resolved.{IsResolvedKind, IsResolvedMethod};
+ghost use Rattle.flow_rules.specs.StackTypes.{types_named};
+ghost use Rattle.resolved_code.specs.ResolvedPrograms.{IsResolvedKind, IsResolvedMethod};
 ghost use Rattle.resolved_code.specs.ById.{class_name};
 
 use cil_model::memory::NoMemory;

@@ -2,7 +2,7 @@
 
 ghost use Rattle.std.specs.Prelude.{◌≡◌, ◌<◌, length, map, slice_get, Some, IfOk, IfSome};
 ghost use Rattle.flow_rules.specs.declared.entries.StackEntry.TheVariants.{Declared};
-ghost use Rattle.verifier.specs.Kept.{entry_of, entries_of};
+ghost use Rattle.verifier.specs.KeptStacks.{entry_of, entries_of};
 
 use cil_model::memory::NoMemory;
 use flow_rules::entries::StackEntry;
@@ -134,7 +134,7 @@ impl Model for KeptStack {
 
     ghost Value = { List StackEntry };
 
-    ghost use Rattle.verifier.specs.Kept.{entries_of};
+    ghost use Rattle.verifier.specs.KeptStacks.{entries_of};
 
     ghost view = { λ s. entries_of s.form };
 }

@@ -6,7 +6,7 @@ ghost use Rattle.cil_model.specs.Legality.{IsLegal};
 ghost use Rattle.cil_model.specs.TypeTree.{IsBelow};
 ghost use Rattle.cil_model.specs.TypeTree as OnStack;
 ghost use Rattle.flow_rules.specs.declared.entries.StackEntry.TheVariants.{Declared};
-ghost use Rattle.flow_rules.specs.Named.{type_named, stack_type, stack_types, element_named, is_known};
+ghost use Rattle.flow_rules.specs.StackTypes.{type_named, stack_type, stack_types, element_named, is_known};
 ghost use Rattle.flow_rules.specs.Merging.{IsMerged};
 ghost use Rattle.verifier.specs.StackMerges.{IsEntryMerge, IsStackMerge};
 ghost use Rattle.verifier.specs.Rises.{rises, stack_rises};

@@ -5,11 +5,11 @@ ghost use Rattle.cil_model.specs.declared.trees.Tree.{Tree};
 ghost use Rattle.cil_model.specs.declared.trees.Code.{Code};
 ghost use Rattle.cil_model.specs.declared.trees.Line.{Line};
 ghost use Rattle.cil_model.specs.declared.instructions.Instruction.{Instruction};
-ghost use Rattle.flow_rules.specs.Named.{type_named, types_named, stack_types};
+ghost use Rattle.flow_rules.specs.StackTypes.{type_named, types_named, stack_types};
 ghost use Rattle.flow_rules.specs.Flow.{flow_of};
 ghost use Rattle.flow_rules.specs.declared.entries.StackEntry as entries;
-ghost use Rattle.resolved_code.specs.Resolved.{IsBody, IsOperation};
-ghost use Rattle.verifier.specs.Rises.{stack_rises, natural};
+ghost use Rattle.resolved_code.specs.ResolvedPrograms.{IsBody, IsOperation};
+ghost use Rattle.verifier.specs.Rises.{stack_rises, as_natural};
 ghost use Rattle.verifier.specs.Ways.{ways_on};
 ghost use Rattle.verifier.specs.Tables.{IsPending};
 ghost use Rattle.verifier.specs.Answers.{IsRow, IsResultAt, IsMergeAt, IsRise, AreOf, IsOnTheWay, IsVisit, IsTypingAnswer, IsWhole, with_max_stack, work_left};
@@ -54,7 +54,7 @@ fn is_low(height: usize, most: usize) -> bool
 
 /// The most values that a stack may hold. None where that is negative.
 fn most_values(max_stack: i64) -> Option<usize>
-    ensures { result ≡ natural max_stack }
+    ensures { result ≡ as_natural max_stack }
 {
     usize::try_from(max_stack).ok()
 }

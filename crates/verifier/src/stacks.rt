@@ -3,7 +3,7 @@
 ghost use Rattle.std.specs.Prelude.{◌≡◌, IfOk, IfErr, OnOk, ◌++◌, ◌∷◌, [], List};
 ghost use Rattle.cil_model.specs.declared.trees.Line.{Line};
 ghost use Rattle.cil_model.specs.declared.instructions.Instruction.{Instruction};
-ghost use Rattle.resolved_code.specs.Resolved.{IsOperation};
+ghost use Rattle.resolved_code.specs.ResolvedPrograms.{IsOperation};
 ghost use Rattle.flow_rules.specs.Flow.{flow_of};
 ghost use Rattle.verifier.specs.Answers.{IsResult};
 ghost use Rattle.flow_rules.specs.declared.mismatches.FlowError.TheVariants.{OutOfMemory};

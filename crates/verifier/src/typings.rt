@@ -7,7 +7,7 @@ ghost use Rattle.cil_model.specs.declared.types.ClassName.{ClassName};
 ghost use Rattle.cil_model.specs.Bodies.{code_of, source_methods};
 ghost use Rattle.name_tables.specs.Numbers.{method_at};
 ghost use Rattle.resolved_code.specs.ById.{class_name};
-ghost use Rattle.resolved_code.specs.Resolved.{IsBody, IsResolvedMethod};
+ghost use Rattle.resolved_code.specs.ResolvedPrograms.{IsBody, IsResolvedMethod};
 ghost use Rattle.verifier.specs.Members.{methods_at};
 ghost use Rattle.verifier.specs.Verdicts.{AreVerdicts, IsMethodVerdict};
 

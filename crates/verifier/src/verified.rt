@@ -5,7 +5,7 @@ ghost use Rattle.cil_model.specs.declared.trees.Method.{Method};
 ghost use Rattle.cil_model.specs.declared.types.ClassName.{ClassName};
 ghost use Rattle.cil_model.specs.Bodies.{source_methods};
 ghost use Rattle.cil_model.specs.Typings.{IsAccepted, IsTyping};
-ghost use Rattle.class_layout.specs.Laid.{IsLayout};
+ghost use Rattle.class_layout.specs.Layouts.{IsLayout};
 ghost use Rattle.verifier.specs.Answers.{typing_of};
 ghost use Rattle.verifier.specs.Verdicts.{AreTypings, IsVerdict};
 
@@ -39,7 +39,7 @@ impl Drop for Verified {
 /// types, the stacks of ways on agree, and none is higher than `.maxstack`.
 impl Model for Verified {
     ghost use Rattle.cil_model.specs.declared.trees.Tree.{Tree};
-    ghost use Rattle.class_layout.specs.Laid.{IsLayout};
+    ghost use Rattle.class_layout.specs.Layouts.{IsLayout};
     ghost use Rattle.verifier.specs.Verdicts.{AreTypings};
 
     ghost Value = { Tree };

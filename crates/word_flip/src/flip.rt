@@ -280,7 +280,7 @@ impl Flip {
     pub fn flip_ack(&self, writer: Writer) -> (u64, Writer)
         requires { IsWriterOf self.now writer }
         ensures writer { result.1 ≡ record writer { stage = result.0; polled = result.0; polls = writer.polls + 1 } }
-        ensures paced { IsPostedOrOneLess writer.stage result.0 }
+        ensures within_one_stage { IsPostedOrOneLess writer.stage result.0 }
         ensures last { result.0 ≤ 2 }
     {
         let (stage, token) = self.table.poll(writer.token);
@@ -335,7 +335,7 @@ impl Flip {
     fn find(&self, copier: Copier, seat: usize) -> (u64, Copier)
         requires { IsCopierOf self.now copier × (seat < self.now.plan.seats) }
         ensures copier { result.1 ≡ record copier { found = slice_set copier.found seat result.0; looks = copier.looks + 1; looked_at = seat } }
-        ensures paced { IsPostedOrOneLess result.0 copier.stage }
+        ensures within_one_stage { IsPostedOrOneLess result.0 copier.stage }
         ensures rises { slice_index copier.found seat ≤ result.0 }
     {
         let copied = copier.copied;

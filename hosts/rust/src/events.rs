@@ -33,7 +33,7 @@ impl fmt::Display for Event {
 pub struct RoundRobin {
     threads: u8,
     collects: bool,
-    place: u8,
+    position: u8,
 }
 
 impl RoundRobin {
@@ -42,7 +42,7 @@ impl RoundRobin {
         RoundRobin {
             threads: threads.clamp(1, MOST_THREADS),
             collects: false,
-            place: 0,
+            position: 0,
         }
     }
 
@@ -59,16 +59,16 @@ impl Iterator for RoundRobin {
     type Item = Event;
 
     fn next(&mut self) -> Option<Event> {
-        let (place, threads) = (self.place, self.threads);
+        let (position, threads) = (self.position, self.threads);
         let round = if self.collects {
             2 * threads + 1
         } else {
             threads
         };
-        self.place = (place + 1) % round;
-        Some(match place {
-            _ if place < threads => Event::Step(place),
-            _ if place < 2 * threads => Event::Ack(place - threads),
+        self.position = (position + 1) % round;
+        Some(match position {
+            _ if position < threads => Event::Step(position),
+            _ if position < 2 * threads => Event::Ack(position - threads),
             _ => Event::Gc,
         })
     }
@@ -118,7 +118,7 @@ impl Iterator for Random {
 #[derive(Clone, Debug, PartialEq, Eq)]
 pub struct Schedule {
     items: Vec<(Event, u32)>,
-    place: usize,
+    position: usize,
     times: u32,
 }
 
@@ -182,7 +182,7 @@ impl Schedule {
             .collect::<Result<_, _>>()?;
         Ok(Schedule {
             items,
-            place: 0,
+            position: 0,
             times: 0,
         })
     }
@@ -192,10 +192,10 @@ impl Iterator for Schedule {
     type Item = Event;
 
     fn next(&mut self) -> Option<Event> {
-        let (event, count) = *self.items.get(self.place)?;
+        let (event, count) = *self.items.get(self.position)?;
         self.times += 1;
         if self.times == count {
-            self.place += 1;
+            self.position += 1;
             self.times = 0;
         }
         Some(event)

@@ -14,7 +14,7 @@ use Rattle.object_memory.specs.Spaces.{Spaces, AreSpaces, cell_at, forward, is_o
 use Rattle.object_memory.proofs.TwoSpaces.TwoBlocks.{forward_else, no_literal, old_is_cell, are_distinct}
 use Rattle.collector.specs.References.{SlotsPass, Test, ValuePasses, is_permanent, reference_in}
 use Rattle.collector.specs.Phases.{is_live, is_live_object, is_marked_address, is_marked_cell, is_marked_old, is_new, is_new_address}
-use Rattle.collector.specs.Holding.{AnyLive, Hold, MarkedOnly, NewOnly, passes}
+use Rattle.collector.specs.Holds.{AnyLive, Hold, MarkedOnly, NewOnly, passes}
 
 -- ---- tests and cells
 

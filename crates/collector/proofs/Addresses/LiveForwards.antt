@@ -14,7 +14,7 @@ use Rattle.object_memory.proofs.TwoSpaces.TwoBlocks.{forward_copy, forward_else,
 use Rattle.collector.specs.References.{is_permanent}
 use Rattle.collector.specs.Phases.{HasLooked, is_live, is_live_object, is_marked_cell, is_marked_old, is_new, is_new_address}
 use Rattle.collector.specs.Soundness.{AreCopies, IsSoundHeap}
-use Rattle.collector.specs.Holding.{is_flipping}
+use Rattle.collector.specs.Holds.{is_flipping}
 use Rattle.collector.specs.declared.progress.Progress.{Progress}
 use Rattle.collector.proofs.Addresses.Disjunctions.{false_is_true, either_true, or_first, or_second}
 
@@ -153,7 +153,7 @@ module _ (tree : Tree) (posted_phase : Phase) (has_round : Bool) (words : ℕ) (
       by_cell (Some c) is = by_other c is c.other refl
         where
           by_other : (c : Cell) → cell_in m.old a ≡ Some c → (r : Option Addr) → c.other ≡ r → (forward m a).number < ADDRESSES
-          by_other c is None bare = rw (is, bare) short
+          by_other c is None no_copy = rw (is, no_copy) short
           by_other c is (Some b) other =
               let u = sound.copies.out a b c is other in
               let low = (are_distinct m spaces b u.0 (new_is_cell m spaces b u.0 u.1)).1 in

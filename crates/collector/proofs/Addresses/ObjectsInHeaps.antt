@@ -5,7 +5,7 @@ use Rattle.std.proofs.lemmas.Option.{slice_get-get_or, unwrap_or-slice_get}
 use Rattle.cil_model.specs.declared.limits.TheConstants.{MOST_WORDS}
 use Rattle.cil_model.specs.declared.phases.Phase.TheVariants.{Mark, Copy}
 use Rattle.cil_model.specs.declared.trees.Tree.{Tree}
-use Rattle.class_layout.specs.Laid.{IsLayout}
+use Rattle.class_layout.specs.Layouts.{IsLayout}
 use Rattle.class_layout.specs.declared.layout.Layout.{Layout}
 use Rattle.object_memory.specs.declared.addresses.Addr.{Addr}
 use Rattle.object_memory.specs.Cells.{Cell, Cells, size, used_words, cell_in, literal_number, address_after_cell, begins_after}
@@ -16,7 +16,7 @@ use Rattle.object_memory.proofs.TwoSpaces.TwoBlocks.{new_is_cell, old_is_cell}
 use Rattle.object_memory.specs.declared.kinds.Kind.{Kind}
 use Rattle.collector.specs.References.{SlotsPass, Test, holds_reference, reference_in}
 use Rattle.collector.specs.Phases.{is_live, is_marked_cell}
-use Rattle.collector.specs.Marking.{word_of}
+use Rattle.collector.specs.MarkSteps.{word_of}
 use Rattle.collector.specs.Conditions.{IsReadable}
 
 -- ---- cells
@@ -65,10 +65,10 @@ old_reference tree m a c kind slot holds at is decoded_so =
 -- a slot can be read where its reference passes a test that only what is there passes
 pub readable : (layout : Layout) (tree : Tree) (o : Objects) (test : Test) → IsLayout tree layout → (a : Addr) (c : Cell) (slot : ℕ) → cell_in o.spaces.old a ≡ Some c → slot < length c.slots
     → ((b : Addr) → test b ≡ true → is_there o.spaces b ≡ true) → SlotsPass tree test c → IsReadable layout o a slot
-readable layout tree o test laid a c slot at inside there passes =
+readable layout tree o test layout_is a c slot at inside there passes =
     record {
       tree = tree;
-      laid = laid;
+      layout_is = layout_is;
       cell = c;
       at = at;
       inside = inside;

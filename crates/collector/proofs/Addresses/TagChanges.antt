@@ -12,7 +12,7 @@ use Rattle.std.proofs.Math.ListN.{length-set}
 use Rattle.object_memory.proofs.Blocks.{own_in, other_in, unchanged_in}
 use Rattle.collector.specs.References.{is_permanent}
 use Rattle.collector.specs.Phases.{is_live, is_live_object, is_marked_address, is_marked_cell, is_marked_old, is_new, is_new_address}
-use Rattle.collector.specs.Holding.{Hold, AnyLive, MarkedOnly, NewOnly, passes}
+use Rattle.collector.specs.Holds.{Hold, AnyLive, MarkedOnly, NewOnly, passes}
 
 -- ---- what changes keep
 

@@ -19,7 +19,7 @@ use Rattle.phase_handshake.specs.declared.posts.Seat.{Seat}
 use Rattle.collector.specs.References.{SlotsPass, Test, ValuePasses, is_permanent, reference_in}
 use Rattle.collector.specs.Phases.{is_live, is_live_object, is_marked_address, is_marked_cell, is_marked_old, is_new, is_new_address, is_read}
 use Rattle.collector.specs.Soundness.{AreCopied, IsSoundHeap}
-use Rattle.collector.specs.Holding.{AnyLive, Hold, MarkedOnly, NewOnly, hold_of, is_flipping, is_marking, may_hold, passes, static_may_hold}
+use Rattle.collector.specs.Holds.{AnyLive, Hold, MarkedOnly, NewOnly, hold_of, is_flipping, is_marking, may_hold, passes, static_may_hold}
 use Rattle.collector.specs.declared.progress.Progress.{Progress}
 
 -- ---- what passes a test passes a weaker one

@@ -15,13 +15,13 @@ use Rattle.object_memory.specs.Spaces.{AreSpaces, Spaces, address_at, birth_spac
 use Rattle.object_memory.specs.declared.birth_spaces.BirthSpace.{BirthSpace}
 use Rattle.object_memory.specs.declared.birth_spaces.BirthSpace.TheVariants.{InBoth, InNew, InOld, Listed}
 use Rattle.object_memory.specs.Objects.{Objects}
-use Rattle.barriers.specs.Barriers.{can_bear, object_born}
+use Rattle.barriers.specs.Barriers.{can_allocate, object_born}
 use Rattle.phase_handshake.specs.Handshakes.{Handshakes, IsClose}
 use Rattle.phase_handshake.specs.declared.posts.Seat.{Seat}
 use Rattle.collector.specs.Soundness.{IsSoundHeap}
 use Rattle.object_memory.proofs.Births.{born-new_last, born-old_last}
 use Rattle.collector.specs.Phases.{HasLooked, is_before_copies, is_live, is_marked_address, is_marked_cell, is_marked_old, is_new, is_of_cycle, no_progress}
-use Rattle.collector.specs.Holding.{AnyLive, HasNotBegun, Hold, IsOnTime, MarkedOnly, NewOnly, is_flipping, is_marking, may_hold, passes}
+use Rattle.collector.specs.Holds.{AnyLive, HasNotBegun, Hold, IsOnTime, MarkedOnly, NewOnly, is_flipping, is_marking, may_hold, passes}
 use Rattle.object_memory.specs.Spaces.{is_old}
 use Rattle.collector.specs.References.{is_permanent}
 use Rattle.collector.specs.declared.progress.Progress.{Progress}
@@ -220,7 +220,7 @@ module _ (own posted_phase : Phase) (near : IsNear own posted_phase) where
 module _ (tree : Tree) (own posted_phase : Phase) (near : IsNear own posted_phase) (has_round : Bool) (words : ℕ) (p : Progress) (o : Objects)
     (time : IsOnTime own posted_phase has_round p o.spaces) (sound : IsSoundHeap tree posted_phase has_round words p o.spaces) where
   -- the thread can bear
-  pub can_bear_near : can_bear own o ≡ true
+  pub can_bear_near : can_allocate own o ≡ true
   can_bear_near = ap (λ t. if is_within_cycle own then t else true) sound.blocks.held ∙ can_near own posted_phase near
 
   -- with the cycle as open as the heap has it

@@ -20,7 +20,7 @@ use Rattle.object_memory.proofs.TwoSpaces.TwoBlocks.{forward_new, forward_null}
 use Rattle.collector.specs.References.{SlotsPass, Test, holds_reference, reference_in}
 use Rattle.collector.specs.Phases.{HasCopied, HasLooked, is_before_copies, is_live, is_marked_address, is_marked_cell, is_marked_old, is_new_address, is_of_cycle, is_read}
 use Rattle.collector.specs.Soundness.{AreBlocks, IsCleared, AreCopied, AreCopies, AreMarked, IsCopiedSlot, IsCopiedWord, IsInCopy, IsListed, IsLoaded, IsSoundHeap, copied_word}
-use Rattle.collector.specs.Holding.{HasNotBegun, Hold, passes}
+use Rattle.collector.specs.Holds.{HasNotBegun, Hold, passes}
 use Rattle.collector.specs.declared.progress.Progress.{Progress}
 use Rattle.collector.proofs.BlockWalks.CollectorOffsets.{HasCursor-born}
 use Rattle.collector.proofs.Addresses.GrowingBlocks.{IsLying, TestsStay, false_true, forward_permanent, in_new, in_old, live_lies, live_stays, marked_stays, marked_there, new_stays, permanent, slots_weaken, some_there}
@@ -381,8 +381,8 @@ module _ (tree : Tree) (hold : Hold) (posted_phase : Phase) (has_round : Bool) (
   -- all of it together
   born_copied : AreCopied tree posted_phase p m'
   born_copied = record {
-    bare = λ a c e before. elim (was_old a c e) [
-      | inl was ↦ sound.copies.bare a c was before
+    no_copy = λ a c e before. elim (was_old a c e) [
+      | inl was ↦ sound.copies.no_copy a c was before
       | inr here ↦ sym (ap other_of here.1) ∙ bare_part m k n space (suits.early before)
     ];
     unmarked = λ a c e between. elim (was_old a c e) [

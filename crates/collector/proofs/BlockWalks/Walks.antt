@@ -7,7 +7,7 @@ use Rattle.object_memory.specs.Spaces.{IsOffset, clear, found_in, is_noted}
 use Rattle.object_memory.specs.Objects.{Objects}
 use Rattle.object_memory.proofs.Offsets.{found_end, found_here, found_step, offset-following, offset-last}
 use Rattle.collector.specs.Conditions.{found_at}
-use Rattle.collector.specs.Flips.{cleared_at, cleared_on}
+use Rattle.collector.specs.Flips.{clear_step_at, next_clear_step}
 use Rattle.collector.specs.declared.progress.Progress.{Progress}
 use Rattle.collector.specs.declared.walks.FoundObject.{FoundObject}
 
@@ -73,11 +73,11 @@ abbrev Outcome : Type 0
 Outcome = Progress × Objects × Bool
 
 pub cleared_done : (p : Progress) (o : Objects) (f : FoundObject) (c : Cell) → ◌≡◌ {A = Option FoundObject} (Some f) (option_map (found_at o.spaces.new) (found_in is_noted o.spaces.new (o.spaces.new.start + p.cursor)))
-    → cell_in o.spaces.new f.object ≡ Some c → ◌≡◌ {A = Outcome} (record p { cursor = f.offset + size c }, record o { spaces = clear o.spaces f.object }, true) (cleared_on p o)
+    → cell_in o.spaces.new f.object ≡ Some c → ◌≡◌ {A = Outcome} (record p { cursor = f.offset + size c }, record o { spaces = clear o.spaces f.object }, true) (next_clear_step p o)
 cleared_done p o f c found at = by_found (found_in is_noted o.spaces.new (o.spaces.new.start + p.cursor)) found
   where
     by_found : (x : Option ℕ) → ◌≡◌ {A = Option FoundObject} (Some f) (option_map (found_at o.spaces.new) x)
-        → ◌≡◌ {A = Outcome} (record p { cursor = f.offset + size c }, record o { spaces = clear o.spaces f.object }, true) (cleared_at p o x)
+        → ◌≡◌ {A = Outcome} (record p { cursor = f.offset + size c }, record o { spaces = clear o.spaces f.object }, true) (clear_step_at p o x)
     by_found None e = absurd cc
     by_found (Some n) e =
         let same : f ≡ found_at o.spaces.new n = cc in

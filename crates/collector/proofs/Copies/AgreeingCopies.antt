@@ -75,8 +75,8 @@ module _ (tree : Tree) (posted_phase : Phase) (p : Progress) (m : Spaces) where
 
   -- a word in a slot of the old copy, and its copy in the new one
   module _ (slot w w' : ℕ) (x : Addr) (c d : Cell) (were : AreCopies tree posted_phase p m x c d) (copied : w' ≡ copied_word tree m c slot w) where
-    copied_at : (j : ℕ) → (slot ≢ j → IsCopiedSlot tree m c d j) → IsCopiedSlot tree m (store_slot slot w c) (store_slot slot w' d) j
-    copied_at j was word is = by_test (slot == j) refl
+    copy_step_at : (j : ℕ) → (slot ≢ j → IsCopiedSlot tree m c d j) → IsCopiedSlot tree m (store_slot slot w c) (store_slot slot w' d) j
+    copy_step_at j was word is = by_test (slot == j) refl
       where
         by_test : (t : Bool) → (slot == j) ≡ t → slice_get (slice_set d.slots slot w') j ≡ Some (copied_word tree m c j word)
         by_test true e =
@@ -94,7 +94,7 @@ module _ (tree : Tree) (posted_phase : Phase) (p : Progress) (m : Spaces) where
     words_alike : (word : ℕ) → IsInCopy posted_phase p m x (store_slot slot w c) word → IsCopiedWord tree m (store_slot slot w c) (store_slot slot w' d) word
     words_alike zero is = were.words 0 (was_in_copy x c (store_slot slot w c) 0 refl is)
     words_alike (suc j) is =
-        copied_at j (λ ne. were.words (suc j) (was_in_copy x c (store_slot slot w c) (suc j) (ap (λ (o : Option ℕ). unwrap_or o 0 == p.attempt.word) (set_other c.slots slot j w ne)) is))
+        copy_step_at j (λ ne. were.words (suc j) (was_in_copy x c (store_slot slot w c) (suc j) (ap (λ (o : Option ℕ). unwrap_or o 0 == p.attempt.word) (set_other c.slots slot j w ne)) is))
 
     -- the copies are alike
     pub slots_alike : AreCopies tree posted_phase p m x (store_slot slot w c) (store_slot slot w' d)

@@ -17,7 +17,7 @@ use Rattle.object_memory.proofs.TwoSpaces.TwoCopies.{AreSpaces-shell, shell-old,
 use Rattle.collector.specs.References.{SlotsPass}
 use Rattle.collector.specs.Phases.{HasCopied, HasLooked, is_live, is_marked_old, is_new_address, no_progress}
 use Rattle.collector.specs.Soundness.{AreBlocks, AreCopies, AreCopied, IsSoundHeap}
-use Rattle.collector.specs.Copying.{address_after_cell, looked_on, needs_copy, shell_step}
+use Rattle.collector.specs.CopySteps.{address_after_cell, next_shell_step, needs_copy, shell_step}
 use Rattle.collector.specs.declared.progress.Progress.{Progress}
 use Rattle.collector.proofs.BlockWalks.ChangedBlocks.{IsOffset-change}
 use Rattle.collector.proofs.BlockWalks.CollectorOffsets.{HasCursor-begun}
@@ -46,7 +46,7 @@ are_shells tree p m a c d kind count back = record {
 module _ (tree : Tree) (has_round : Bool) (words : ℕ) (p : Progress) (m : Spaces) (sound : IsSoundHeap tree Allocate has_round words p m) where
   -- ---- an object gets its copy
 
-  module _ (a : Addr) (c : Cell) (lies : cell_in m.old a ≡ Some c) (marked : c.marked ≡ true) (bare : c.other ≡ None) where
+  module _ (a : Addr) (c : Cell) (lies : cell_in m.old a ≡ Some c) (marked : c.marked ≡ true) (no_copy : c.other ≡ None) where
     abbrev b : Addr
     b = next_address m.new
 
@@ -82,16 +82,16 @@ module _ (tree : Tree) (has_round : Bool) (words : ℕ) (p : Progress) (m : Spac
         by_case : WasOld x d → (e : Cell) × (cell_in after.new y ≡ Some e) × AreCopies tree Allocate p after x d e
         by_case (copied here is) =
             let there : b ≡ y = same_Some b y (sym (ap (λ (z : Cell). z.other) is) ∙ other) in
-            let new = subst (λ z. cell_in after.new z ≡ Some (shell_of a c)) there (shell-new m spaces room a c lies bare) in
+            let new = subst (λ z. cell_in after.new z ≡ Some (shell_of a c)) there (shell-new m spaces room a c lies no_copy) in
             let kind = sym (ap (λ (z : Cell). z.kind) is) in
             let count = length-replicate {A = ℕ} (length c.slots) 0 ∙ sym (ap (λ (z : Cell). length z.slots) is) in
             (shell_of a c, new, are_shells tree p after x d (shell_of a c) kind count (ap Some (sym here)))
         by_case (kept was) =
             let r = sound.copies.out x y d was other in
-            (r.0, shell-kept_new m spaces room a c lies bare y r.0 r.1, are_shells tree p after x d r.0 r.2.kind r.2.count (r.2.back (inl (λ wrong. absurd cc))))
+            (r.0, shell-kept_new m spaces room a c lies no_copy y r.0 r.1, are_shells tree p after x d r.0 r.2.kind r.2.count (r.2.back (inl (λ wrong. absurd cc))))
 
     shell_back : (x y : Addr) (e : Cell) → cell_in after.new y ≡ Some e → e.other ≡ Some x → (d : Cell) × (cell_in after.old x ≡ Some d) × (d.other ≡ Some y)
-    shell_back x y e at other = by_case (shell-was_new m spaces room a c lies bare y e at)
+    shell_back x y e at other = by_case (shell-was_new m spaces room a c lies no_copy y e at)
       where
         by_case : (cell_in m.new y ≡ Some e) ⊎ ((y.number ≡ b.number) × (e ≡ shell_of a c)) → (d : Cell) × (cell_in after.old x ≡ Some d) × (d.other ≡ Some y)
         by_case (inl was) =
@@ -101,14 +101,14 @@ module _ (tree : Tree) (has_round : Bool) (words : ℕ) (p : Progress) (m : Spac
               | own same equal ↦ (
                   let there : cell_in m.old a ≡ Some r.0 = subst (λ z. cell_in m.old z ≡ Some r.0) (same_address x a same) r.1 in
                   let is : r.0 ≡ c = same_Some r.0 c (sym there ∙ lies) in
-                  let wrong : Some y ≡ None = sym r.2 ∙ ap (λ (z : Cell). z.other) is ∙ bare in
+                  let wrong : Some y ≡ None = sym r.2 ∙ ap (λ (z : Cell). z.other) is ∙ no_copy in
                   absurd cc)
               | still ne equal ↦ (now.0, now.1, ap (λ (z : Cell). z.other) equal ∙ r.2)
             ]
         by_case (inr (same, is)) =
             let here : a ≡ x = same_Some a x (sym (ap (λ (z : Cell). z.other) is) ∙ other) in
             let there : b ≡ y = same_address b y (sym same) in
-            (set_other b c, subst (λ z. cell_in after.old z ≡ Some (set_other b c)) here (shell-old m spaces room a c lies bare), ap Some there)
+            (set_other b c, subst (λ z. cell_in after.old z ≡ Some (set_other b c)) here (shell-old m spaces room a c lies no_copy), ap Some there)
 
     shells_then : (x : Addr) (d : Cell) → cell_in after.old x ≡ Some d → d.marked ≡ true → HasLooked Allocate p after x → d.other ≢ None
     shells_then x d at dark looked = by_case (was_old x d at)
@@ -135,10 +135,10 @@ module _ (tree : Tree) (has_round : Bool) (words : ℕ) (p : Progress) (m : Spac
         by_case (kept was) = slots_weaken tree (is_live Allocate m) (is_live Allocate after) live_stays d (sound.copies.old_references x d was dark)
 
     new_then : (y : Addr) (e : Cell) → cell_in after.new y ≡ Some e → SlotsPass tree (is_new_address after) e
-    new_then y e at = by_case (shell-was_new m spaces room a c lies bare y e at)
+    new_then y e at = by_case (shell-was_new m spaces room a c lies no_copy y e at)
       where
         stays : (x : Addr) → is_new_address m x ≡ true → is_new_address after x ≡ true
-        stays x h = new_stays m after (λ z d there. (d, shell-kept_new m spaces room a c lies bare z d there)) x h
+        stays x h = new_stays m after (λ z d there. (d, shell-kept_new m spaces room a c lies no_copy z d there)) x h
 
         by_case : (cell_in m.new y ≡ Some e) ⊎ ((y.number ≡ b.number) × (e ≡ shell_of a c)) → SlotsPass tree (is_new_address after) e
         by_case (inl was) = slots_weaken tree (is_new_address m) (is_new_address after) stays e (sound.copies.new_references y e was)
@@ -146,7 +146,7 @@ module _ (tree : Tree) (has_round : Bool) (words : ℕ) (p : Progress) (m : Spac
 
     shell_copied : AreCopied tree Allocate p after
     shell_copied = record {
-      bare = λ x d at early. absurd cc;
+      no_copy = λ x d at early. absurd cc;
       unmarked = λ x d at over. absurd cc;
       out = shell_out;
       back = shell_back;
@@ -154,13 +154,13 @@ module _ (tree : Tree) (has_round : Bool) (words : ℕ) (p : Progress) (m : Spac
       marked_only = marked_then;
       old_references = old_then;
       new_references = new_then;
-      room = λ posted_phase. HasShellRoom-shell m spaces room a c lies bare;
+      room = λ posted_phase. HasShellRoom-shell m spaces room a c lies no_copy;
     }
 
     shell_blocks : AreBlocks Allocate words after
     shell_blocks = record {
       few = sound.blocks.few;
-      spaces = AreSpaces-shell m spaces room a c lies bare;
+      spaces = AreSpaces-shell m spaces room a c lies no_copy;
       held = sound.blocks.held;
       old_words = sound.blocks.old_words;
       new_words = sound.blocks.new_words;
@@ -206,7 +206,7 @@ module _ (tree : Tree) (has_round : Bool) (words : ℕ) (p : Progress) (m : Spac
 
     next_copied : AreCopied tree Allocate next m
     next_copied = record {
-      bare = λ x d at early. absurd cc;
+      no_copy = λ x d at early. absurd cc;
       unmarked = λ x d at over. absurd cc;
       out = λ x y d at other. (let r = sound.copies.out x y d at other in (r.0, r.1, are_shells tree next m x d r.0 r.2.kind r.2.count (r.2.back (inl (λ wrong. absurd cc)))));
       back = sound.copies.back;
@@ -234,11 +234,11 @@ needs_parts : (c : Cell) → needs_copy c ≡ true → (c.marked ≡ true) × (c
 needs_parts c h = by_tests c.marked c.other refl refl h
   where
     by_tests : (t : Bool) (o : Option Addr) → c.marked ≡ t → c.other ≡ o → (t && is_none o) ≡ true → (c.marked ≡ true) × (c.other ≡ None)
-    by_tests true None marked bare e = (marked, bare)
-    by_tests _ _ marked bare e = absurd cc
+    by_tests true None marked no_copy e = (marked, no_copy)
+    by_tests _ _ marked no_copy e = absurd cc
 
 needs_none : (c : Cell) → needs_copy c ≡ false → c.marked ≡ true → c.other ≢ None
-needs_none c h marked bare = let wrong : true ≡ false = sym (rw (marked, bare) refl) ∙ h in absurd cc
+needs_none c h marked no_copy = let wrong : true ≡ false = sym (rw (marked, no_copy) refl) ∙ h in absurd cc
 
 looked_by_need : (p : Progress) (o : Objects) (c : Cell) (t : Bool) → cell_in o.spaces.old (address_after_cell o.spaces.old p.cursor) ≡ Some c → needs_copy c ≡ t
     → ((if t then record o { spaces = with_shell o.spaces (address_after_cell o.spaces.old p.cursor) c } else o) ≡ o)
@@ -255,9 +255,9 @@ looked_by_cell p o None lies = inl refl
 looked_by_cell p o (Some c) lies = looked_by_need p o c (needs_copy c) lies refl
 
 -- the objects after a step: they stay, or the object at the cursor has got its copy
-pub looked_cases : (p : Progress) (o : Objects) → ((looked_on p o).1 ≡ o)
+pub looked_cases : (p : Progress) (o : Objects) → ((next_shell_step p o).1 ≡ o)
     ⊎ ((c : Cell) × (cell_in o.spaces.old (address_after_cell o.spaces.old p.cursor) ≡ Some c) × (c.marked ≡ true) × (c.other ≡ None)
-    × ((looked_on p o).1 ≡ record o { spaces = with_shell o.spaces (address_after_cell o.spaces.old p.cursor) c }))
+    × ((next_shell_step p o).1 ≡ record o { spaces = with_shell o.spaces (address_after_cell o.spaces.old p.cursor) c }))
 looked_cases p o = looked_by_cell p o (cell_in o.spaces.old (address_after_cell o.spaces.old p.cursor)) refl
 
 module _ (tree : Tree) (has_round : Bool) (words : ℕ) (p : Progress) (o : Objects) (sound : IsSoundHeap tree Allocate has_round words p o.spaces) where
@@ -277,7 +277,7 @@ module _ (tree : Tree) (has_round : Bool) (words : ℕ) (p : Progress) (o : Obje
   step_by_cell (Some c) lies = step_by_need c lies (needs_copy c) refl
 
   -- a step of Allocate keeps the heap sound
-  pub looked_sound : IsSoundHeap tree Allocate has_round words (looked_on p o).0 (looked_on p o).1.spaces
+  pub looked_sound : IsSoundHeap tree Allocate has_round words (next_shell_step p o).0 (next_shell_step p o).1.spaces
   looked_sound = step_by_cell (cell_in o.spaces.old (address_after_cell o.spaces.old p.cursor)) refl
 
   -- ---- the end
@@ -286,7 +286,7 @@ module _ (tree : Tree) (has_round : Bool) (words : ℕ) (p : Progress) (o : Obje
   none_left None e = refl
   none_left (Some c) e = absurd cc
 
-  module _ (over : (looked_on p o).2 ≡ false) where
+  module _ (over : (next_shell_step p o).2 ≡ false) where
     -- the cursor is after all old objects
     at_end : o.spaces.old.start + p.cursor ≡ o.spaces.old.start + used_words o.spaces.old.cells
     at_end = elim (at_offset o.spaces.old (o.spaces.old.start + p.cursor) (sound.cursor.offset (inl refl))) [
@@ -328,7 +328,7 @@ module _ (tree : Tree) (has_round : Bool) (words : ℕ) (p : Progress) (o : Obje
         none_grey = λ over. absurd cc;
       };
       copies = record {
-        bare = λ x d at early. absurd cc;
+        no_copy = λ x d at early. absurd cc;
         unmarked = λ x d at over. absurd cc;
         out = λ x y d at other. (let r = sound.copies.out x y d at other in (r.0, r.1, unfilled x d r.0 at r.2));
         back = sound.copies.back;

@@ -19,8 +19,8 @@ use Rattle.object_memory.proofs.TwoSpaces.TwoBlocks.{slot_keeps}
 use Rattle.collector.specs.References.{Test, SlotsPass, holds_reference, reference_in}
 use Rattle.collector.specs.Attempts.{has_loaded, is_same_monitor, with_loaded}
 use Rattle.collector.specs.Soundness.{AreCopies, IsCopiedWord, IsInCopy, copied_word}
-use Rattle.collector.specs.Marking.{word_of}
-use Rattle.collector.specs.Copying.{word_stored}
+use Rattle.collector.specs.MarkSteps.{word_of}
+use Rattle.collector.specs.CopySteps.{word_stored}
 use Rattle.collector.specs.declared.progress.Attempt.{Attempt}
 use Rattle.collector.specs.declared.progress.Progress.{Progress}
 use Rattle.collector.specs.declared.progress.Stage.{Stage}

@@ -11,9 +11,9 @@ use Rattle.object_memory.specs.Objects.{Objects, with_slot}
 use Rattle.object_memory.proofs.Offsets.{found_here}
 use Rattle.object_memory.proofs.Rooms.{shell_fits, size-shell}
 use Rattle.collector.specs.Conditions.{found_at}
-use Rattle.collector.specs.Marking.{word_of}
+use Rattle.collector.specs.MarkSteps.{word_of}
 use Rattle.collector.specs.Attempts.{attempt_cost, with_loaded}
-use Rattle.collector.specs.Copying.{before_word, after_word, copied_at, copied_on, needs_copy, word_begun, word_step, word_stored}
+use Rattle.collector.specs.CopySteps.{before_word, after_word, copy_step_at, next_copy_step, needs_copy, word_begun, word_step, word_stored}
 use Rattle.collector.specs.Soundness.{copied_word}
 use Rattle.collector.specs.declared.progress.Attempt.{Attempt}
 use Rattle.collector.specs.declared.progress.Progress.{Progress}
@@ -24,18 +24,18 @@ use Rattle.collector.proofs.Copies.CopiedWords.{loaded_checks}
 
 -- ---- shells
 
-bare_by : (marked : Bool) (other : Option Addr) → (marked && is_none other) ≡ true → other ≡ None
-bare_by true None e = refl
-bare_by _ _ e = absurd cc
+no_copy_by : (marked : Bool) (other : Option Addr) → (marked && is_none other) ≡ true → other ≡ None
+no_copy_by true None e = refl
+no_copy_by _ _ e = absurd cc
 
 -- an object that needs a copy has none
-pub bare : (c : Cell) → needs_copy c ≡ true → c.other ≡ None
-bare c e = bare_by c.marked c.other e
+pub no_copy : (c : Cell) → needs_copy c ≡ true → c.other ≡ None
+no_copy c e = no_copy_by c.marked c.other e
 
 -- and there is room for its shell
 pub room_for_shell : (m : Spaces) → AreSpaces m → HasShellRoom m → (a : Addr) (c : Cell) → cell_in m.old a ≡ Some c → needs_copy c ≡ true → 3 + length (slots_in m.old a) ≤ free_words m.new
 room_for_shell m h room a c at needs =
-    let fits = shell_fits m h room a c at (bare c needs) in
+    let fits = shell_fits m h room a c at (no_copy c needs) in
     let long = size-shell a c in
     rw at (omega (arith, fits, long))
 
@@ -100,13 +100,13 @@ module _ (tree : Tree) (p : Progress) (o : Objects) (f : FoundObject) (c : Cell)
   done a = ((word_step p.attempt.stage tree p o a c b).0, (word_step p.attempt.stage tree p o a c b).1, true)
 
   pub word_done : ◌≡◌ {A = Option FoundObject} (Some f) (option_map (found_at o.spaces.old) (found_in has_other o.spaces.old (o.spaces.old.start + p.cursor))) → cell_in o.spaces.old f.object ≡ Some c
-      → c.other ≡ Some b → ◌≡◌ {A = Outcome} (done f.object) (copied_on tree p o)
+      → c.other ≡ Some b → ◌≡◌ {A = Outcome} (done f.object) (next_copy_step tree p o)
   word_done found at other = by_found (found_in has_other o.spaces.old (o.spaces.old.start + p.cursor)) found
     where
-      step_is : (n : ℕ) → cell_in o.spaces.old (record { number = n }) ≡ Some c → ◌≡◌ {A = Outcome} (copied_at tree p o (Some n)) (done (record { number = n }))
+      step_is : (n : ℕ) → cell_in o.spaces.old (record { number = n }) ≡ Some c → ◌≡◌ {A = Outcome} (copy_step_at tree p o (Some n)) (done (record { number = n }))
       step_is n there = rw (there, other) refl
 
-      by_found : (x : Option ℕ) → ◌≡◌ {A = Option FoundObject} (Some f) (option_map (found_at o.spaces.old) x) → ◌≡◌ {A = Outcome} (done f.object) (copied_at tree p o x)
+      by_found : (x : Option ℕ) → ◌≡◌ {A = Option FoundObject} (Some f) (option_map (found_at o.spaces.old) x) → ◌≡◌ {A = Outcome} (done f.object) (copy_step_at tree p o x)
       by_found None e = absurd cc
       by_found (Some n) e =
           let same : f ≡ found_at o.spaces.old n = cc in

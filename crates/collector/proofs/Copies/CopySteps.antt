@@ -3,7 +3,7 @@ use Rattle.std.proofs.Common.{◌≡◌, ℕ, suc, ◌+◌, ◌-◌, ◌<◌, �
 use Rattle.std.specs.Prelude.{IsSome, is_some, Option, Some, None, option_map}
 use Rattle.cil_model.specs.declared.phases.Phase.TheVariants.{Copy}
 use Rattle.cil_model.specs.declared.trees.Tree.{Tree}
-use Rattle.class_layout.specs.Laid.{IsLayout}
+use Rattle.class_layout.specs.Layouts.{IsLayout}
 use Rattle.class_layout.specs.declared.layout.Layout.{Layout}
 use Rattle.object_memory.specs.declared.addresses.Addr.{Addr}
 use Rattle.object_memory.specs.Cells.{Cell, cell_in}
@@ -15,7 +15,7 @@ use Rattle.collector.specs.Phases.{is_live}
 use Rattle.collector.specs.Soundness.{AreCopies, IsSoundHeap}
 use Rattle.collector.specs.Conditions.{IsForwardable, IsReadable, found_at}
 use Rattle.collector.specs.Attempts.{stage_number}
-use Rattle.collector.specs.Copying.{before_word, copied_on, word_step, word_stored}
+use Rattle.collector.specs.CopySteps.{before_word, next_copy_step, word_step, word_stored}
 use Rattle.collector.specs.declared.progress.Progress.{Progress}
 use Rattle.collector.specs.declared.progress.Stage.{Stage}
 use Rattle.collector.specs.declared.progress.Stage.TheVariants.{Loaded, Stored}
@@ -23,7 +23,7 @@ use Rattle.collector.specs.declared.walks.FoundObject.{FoundObject}
 use Rattle.collector.proofs.Addresses.ObjectsInHeaps.{cell_there, live_in_copy, new_slots, readable, decoded}
 use Rattle.collector.proofs.Copies.CopiesStepByStep.{at_offset_is, other_some, word_done, words_left}
 
-module _ (layout : Layout) (tree : Tree) (laid : IsLayout tree layout) (has_round : Bool) (words : ℕ) (p : Progress) (o : Objects) (sound : IsSoundHeap tree Copy has_round words p o.spaces) (f : FoundObject)
+module _ (layout : Layout) (tree : Tree) (layout_is : IsLayout tree layout) (has_round : Bool) (words : ℕ) (p : Progress) (o : Objects) (sound : IsSoundHeap tree Copy has_round words p o.spaces) (f : FoundObject)
     (found : ◌≡◌ {A = Option FoundObject} (Some f) (option_map (found_at o.spaces.old) (found_in has_other o.spaces.old (o.spaces.old.start + p.cursor)))) (there : IsSome (cell_in o.spaces.old f.object))
     (b : Addr) (other : ◌≡◌ {A = Option (Option Addr)} (option_map (λ (x : Cell). x.other) (cell_at o.spaces f.object)) (Some (Some b))) where
   abbrev k : ℕ
@@ -55,7 +55,7 @@ module _ (layout : Layout) (tree : Tree) (laid : IsLayout tree layout) (has_roun
   -- its slot can be read
   pub next_readable : 0 < k → IsReadable layout o f.object (k - 1) × (k ≤ length (slots_at o.spaces b))
   next_readable some = (
-    readable layout tree o (is_live Copy o.spaces) laid f.object from.0 (k - 1) from.1 (let few = few_here in omega (arith, some, few)) (live_in_copy o)
+    readable layout tree o (is_live Copy o.spaces) layout_is f.object from.0 (k - 1) from.1 (let few = few_here in omega (arith, some, few)) (live_in_copy o)
         (sound.copies.old_references f.object from.0 from.1 (sound.copies.marked_only f.object from.0 from.1 (other_some from.0 b refers))),
     in_copy,
   )
@@ -69,7 +69,7 @@ module _ (layout : Layout) (tree : Tree) (laid : IsLayout tree layout) (has_roun
       let next : k ≡ suc (k - 1) = omega (arith, some) in (
         record {
           tree = tree;
-          laid = laid;
+          layout_is = layout_is;
           cell = from.0;
           at = from.1;
           reference = λ holds. live_in_copy o (reference_in p.attempt.word) (sound.loaded refl loaded from.0 lies (k - 1) next holds);
@@ -94,7 +94,7 @@ module _ (layout : Layout) (tree : Tree) (laid : IsLayout tree layout) (has_roun
 
   -- what was loaded is stored, whichever program's layout it is
   pub loaded_done : p.attempt.stage ≡ Loaded → (any : Tree) (heap : Objects) → ((c : Cell) → cell_in o.spaces.old f.object ≡ Some c → heap ≡ word_stored any o p.attempt c b k) →
-      ◌≡◌ {A = Outcome} (record p { cursor = f.offset; attempt = record p.attempt { stage = Stored } }, heap, true) (copied_on any p o)
+      ◌≡◌ {A = Outcome} (record p { cursor = f.offset; attempt = record p.attempt { stage = Stored } }, heap, true) (next_copy_step any p o)
   loaded_done loaded any heap stored =
       ap (λ n. (record p { cursor = n; attempt = record p.attempt { stage = Stored } }, heap, true)) offset_is
       ∙ ap (λ (x : Objects). (before_word p o.spaces.old f.object (record p.attempt { stage = Stored }), x, true)) (stored from.0 from.1)

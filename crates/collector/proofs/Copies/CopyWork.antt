@@ -15,10 +15,10 @@ use Rattle.object_memory.proofs.Offsets.{cell, end, at_offset, below_next, found
 use Rattle.object_memory.proofs.TwoSpaces.TwoBlocks.{own, still, AreSpaces-change, after_in, before_in, change-new_alone, not_old}
 use Rattle.collector.specs.References.{SlotsPass, holds_reference, reference_in}
 use Rattle.collector.specs.Attempts.{has_loaded, most_spent, no_attempt, attempt_cost, stage_number, with_loaded}
-use Rattle.collector.specs.Marking.{word_of}
+use Rattle.collector.specs.MarkSteps.{word_of}
 use Rattle.collector.specs.Phases.{HasCopied, is_live, is_marked_old, is_new, is_new_address, no_progress}
 use Rattle.collector.specs.Soundness.{AreBlocks, AreCopies, AreCopied, HasCursor, IsCopiedWord, IsInCopy, IsLoaded, IsSoundHeap, copied_word}
-use Rattle.collector.specs.Copying.{before_word, after_word, copied_at, copied_on, object_copied, word_step, word_stored}
+use Rattle.collector.specs.CopySteps.{before_word, after_word, copy_step_at, next_copy_step, object_copied, word_step, word_stored}
 use Rattle.collector.specs.declared.progress.Attempt.{Attempt}
 use Rattle.collector.specs.declared.progress.Progress.{Progress}
 use Rattle.collector.specs.declared.progress.Stage.{Stage}
@@ -119,7 +119,7 @@ module _ (tree : Tree) (has_round : Bool) (words : ℕ) (p : Progress) (m : Spac
       before_sound not_stored most loaded = record {
         blocks = sound.blocks;
         copies = record {
-          bare = λ x d there early. absurd cc;
+          no_copy = λ x d there early. absurd cc;
           unmarked = λ x d there over. absurd cc;
           out = λ x y e there some. (let r = sound.copies.out x y e there some in (r.0, r.1, before_copies x e r.0 there (some_is_other e.other y some) r.2));
           back = sound.copies.back;
@@ -311,7 +311,7 @@ module _ (tree : Tree) (has_round : Bool) (words : ℕ) (p : Progress) (m : Spac
 
       filled_copied : AreCopied tree Copy stored_at after
       filled_copied = record {
-        bare = λ x d there early. absurd cc;
+        no_copy = λ x d there early. absurd cc;
         unmarked = λ x d there over. absurd cc;
         out = filled_out;
         back = filled_back;
@@ -437,7 +437,7 @@ module _ (tree : Tree) (has_round : Bool) (words : ℕ) (p : Progress) (m : Spac
         passed_by = record {
           blocks = sound.blocks;
           copies = record {
-            bare = λ x d there early. absurd cc;
+            no_copy = λ x d there early. absurd cc;
             unmarked = λ x d there over. absurd cc;
             out = λ x y e there some. (let r = sound.copies.out x y e there some in (r.0, r.1, passed_copies x y e r.0 there some r.2));
             back = sound.copies.back;
@@ -467,7 +467,7 @@ unfailed : (tree : Tree) (has_round : Bool) (words : ℕ) (p : Progress) (m : Sp
 unfailed tree has_round words p m sound = record {
   blocks = sound.blocks;
   copies = record {
-    bare = λ x d there early. absurd cc;
+    no_copy = λ x d there early. absurd cc;
     unmarked = λ x d there over. absurd cc;
     out = λ x y e there some. (let r = sound.copies.out x y e there some in (r.0, r.1, record { kind = r.2.kind; count = r.2.count; back = r.2.back; words = λ word is. r.2.words word (was_in x e word is) }));
     back = sound.copies.back;
@@ -558,7 +558,7 @@ module _ (tree : Tree) (has_round : Bool) (words : ℕ) (p : Progress) (m : Spac
 module _ (tree : Tree) (p : Progress) (o : Objects) where
   -- a step at the object that is found
   copied_is : (at : ℕ) (c : Cell) (b : Addr) → cell_in o.spaces.old (record { number = at }) ≡ Some c → c.other ≡ Some b
-      → copied_at tree p o (Some at) ≡ object_copied tree p o (record { number = at }) c b
+      → copy_step_at tree p o (Some at) ≡ object_copied tree p o (record { number = at }) c b
   copied_is at c b lies other = rw (lies, other) refl
 
   -- the objects after a step: they stay, or what was loaded of a word is stored
@@ -577,17 +577,17 @@ module _ (tree : Tree) (p : Progress) (o : Objects) where
     stage_by Loaded = one_stored at c b p.attempt lies other (word_stored_is tree o p.attempt c b p.copied_words)
     stage_by Stored = none_stored refl
 
-  cases_by : (r : Option ℕ) → found_in has_other o.spaces.old (o.spaces.old.start + p.cursor) ≡ r → IsStep (copied_at tree p o r).1
+  cases_by : (r : Option ℕ) → found_in has_other o.spaces.old (o.spaces.old.start + p.cursor) ≡ r → IsStep (copy_step_at tree p o r).1
   cases_by None found = none_stored refl
   cases_by (Some at) found =
       let x = found_other o.spaces.old (o.spaces.old.start + p.cursor) at (found_is has_other o.spaces.old (o.spaces.old.start + p.cursor) at found) in
       subst (λ (z : Progress × Objects × Bool). IsStep z.1) (sym (copied_is at x.0 x.1 x.2 x.3)) (stage_by at x.0 x.1 x.2 x.3 p.attempt.stage)
 
-  pub copied_cases : IsStep (copied_on tree p o).1
+  pub copied_cases : IsStep (next_copy_step tree p o).1
   copied_cases = cases_by (found_in has_other o.spaces.old (o.spaces.old.start + p.cursor)) refl
 
   -- where there was no step nothing is found
-  none_by : (r : Option ℕ) → found_in has_other o.spaces.old (o.spaces.old.start + p.cursor) ≡ r → (copied_at tree p o r).2 ≡ false → r ≡ None
+  none_by : (r : Option ℕ) → found_in has_other o.spaces.old (o.spaces.old.start + p.cursor) ≡ r → (copy_step_at tree p o r).2 ≡ false → r ≡ None
   none_by None found over = refl
   none_by (Some at) found over =
       let x = found_other o.spaces.old (o.spaces.old.start + p.cursor) at (found_is has_other o.spaces.old (o.spaces.old.start + p.cursor) at found) in
@@ -622,7 +622,7 @@ module _ (tree : Tree) (has_round : Bool) (words : ℕ) (p : Progress) (o : Obje
     stage_sound Loaded is = in_cell (before_word p o.spaces.old object (record p.attempt { stage = Stored })) p.attempt (stored_sound tree has_round words p o.spaces sound at found c lies b other is)
     stage_sound Stored is = checked_sound is (has_loaded p.attempt c p.copied_words) refl
 
-  step_by : (r : Option ℕ) → found_in has_other o.spaces.old (o.spaces.old.start + p.cursor) ≡ r → IsSoundHeap tree Copy has_round words (copied_at tree p o r).0 (copied_at tree p o r).1.spaces
+  step_by : (r : Option ℕ) → found_in has_other o.spaces.old (o.spaces.old.start + p.cursor) ≡ r → IsSoundHeap tree Copy has_round words (copy_step_at tree p o r).0 (copy_step_at tree p o r).1.spaces
   step_by None found = sound
   step_by (Some at) found =
       let x = found_other o.spaces.old (o.spaces.old.start + p.cursor) at (found_is has_other o.spaces.old (o.spaces.old.start + p.cursor) at found) in
@@ -631,7 +631,7 @@ module _ (tree : Tree) (has_round : Bool) (words : ℕ) (p : Progress) (o : Obje
       (stage_sound at found x.0 x.1 x.2 x.3 p.attempt.stage refl)
 
   -- a step of Copy keeps the heap sound
-  pub copied_sound : IsSoundHeap tree Copy has_round words (copied_on tree p o).0 (copied_on tree p o).1.spaces
+  pub copied_sound : IsSoundHeap tree Copy has_round words (next_copy_step tree p o).0 (next_copy_step tree p o).1.spaces
   copied_sound = step_by (found_in has_other o.spaces.old (o.spaces.old.start + p.cursor)) refl
 
   -- ---- the end
@@ -640,7 +640,7 @@ module _ (tree : Tree) (has_round : Bool) (words : ℕ) (p : Progress) (o : Obje
   pub pre_flip_live : (x : Addr) → is_live Copy o.spaces x ≡ true → is_live PreFlip o.spaces x ≡ true
   pre_flip_live x h = permanent_or x (is_marked_old o.spaces x) (is_marked_old o.spaces x || is_new o.spaces x) (or_left (is_marked_old o.spaces x) (is_new o.spaces x)) h
 
-  module _ (over : (copied_on tree p o).2 ≡ false) where
+  module _ (over : (next_copy_step tree p o).2 ≡ false) where
     none_left : found_in has_other o.spaces.old (o.spaces.old.start + p.cursor) ≡ None
     none_left = none_by tree p o (found_in has_other o.spaces.old (o.spaces.old.start + p.cursor)) refl over
 
@@ -680,7 +680,7 @@ module _ (tree : Tree) (has_round : Bool) (words : ℕ) (p : Progress) (o : Obje
         none_grey = λ closed. absurd cc;
       };
       copies = record {
-        bare = λ x d at early. absurd cc;
+        no_copy = λ x d at early. absurd cc;
         unmarked = λ x d at closed. absurd cc;
         out = λ x y e there some. (let r = sound.copies.out x y e there some in (r.0, r.1, whole x y e r.0 there some r.2));
         back = sound.copies.back;

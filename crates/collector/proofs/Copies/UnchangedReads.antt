@@ -14,7 +14,7 @@ use Rattle.object_memory.proofs.TwoSpaces.TwoCopies.{shell-kept_new, shell-was_n
 use Rattle.collector.specs.References.{is_permanent}
 use Rattle.collector.specs.Phases.{is_live, is_marked_cell, is_marked_old}
 use Rattle.collector.specs.Soundness.{IsSoundHeap}
-use Rattle.collector.specs.Copying.{address_after_cell, copied_on, looked_on}
+use Rattle.collector.specs.CopySteps.{address_after_cell, next_copy_step, next_shell_step}
 use Rattle.collector.specs.declared.progress.Attempt.{Attempt}
 use Rattle.collector.specs.declared.progress.Progress.{Progress}
 use Rattle.collector.proofs.Copies.CopyTests.{marks_same, same_address}
@@ -56,7 +56,7 @@ same_else_still o n e = record {
 
 -- ---- a copy is made
 
-module _ (m : Spaces) (a : Addr) (c : Cell) (lies : cell_in m.old a ≡ Some c) (bare : c.other ≡ None) where
+module _ (m : Spaces) (a : Addr) (c : Cell) (lies : cell_in m.old a ≡ Some c) (no_copy : c.other ≡ None) where
   abbrev b : Addr
   b = next_address m.new
 
@@ -69,7 +69,7 @@ module _ (m : Spaces) (a : Addr) (c : Cell) (lies : cell_in m.old a ≡ Some c) 
         slots = ap (λ (z : Cell). z.slots) equal;
         marked = ap (λ (z : Cell). z.marked) equal;
         monitor = ap (λ (z : Cell). z.monitor) equal;
-        other = inl (ap (λ (z : Cell). z.other) is ∙ bare);
+        other = inl (ap (λ (z : Cell). z.other) is ∙ no_copy);
       }
 
   shell_stays : (x : Addr) (e : Cell) → cell_in m.old x ≡ Some e → (d : Cell) × (cell_in (with_shell m a c).old x ≡ Some d) × IsStill e d
@@ -84,7 +84,7 @@ module _ (m : Spaces) (a : Addr) (c : Cell) (lies : cell_in m.old a ≡ Some c) 
 
 module _ (p : Progress) (o : Objects) where
   -- what is read through an old address stays, and nothing else comes
-  pub looked_old : (x : Addr) (c : Cell) → cell_in o.spaces.old x ≡ Some c → (d : Cell) × (cell_in (looked_on p o).1.spaces.old x ≡ Some d) × IsStill c d
+  pub looked_old : (x : Addr) (c : Cell) → cell_in o.spaces.old x ≡ Some c → (d : Cell) × (cell_in (next_shell_step p o).1.spaces.old x ≡ Some d) × IsStill c d
   looked_old x c there = elim (looked_cases p o) [
     | inl same ↦ (c, ap (λ (z : Objects). cell_in z.spaces.old x) same ∙ there, same_still c c refl)
     | inr h ↦ (
@@ -92,22 +92,22 @@ module _ (p : Progress) (o : Objects) where
         (r.0, ap (λ (z : Objects). cell_in z.spaces.old x) h.4 ∙ r.1, r.2))
   ]
 
-  pub looked_was_old : (x : Addr) (d : Cell) → cell_in (looked_on p o).1.spaces.old x ≡ Some d → (c : Cell) × (cell_in o.spaces.old x ≡ Some c) × IsStill c d
+  pub looked_was_old : (x : Addr) (d : Cell) → cell_in (next_shell_step p o).1.spaces.old x ≡ Some d → (c : Cell) × (cell_in o.spaces.old x ≡ Some c) × IsStill c d
   looked_was_old x d there = elim (looked_cases p o) [
     | inl same ↦ (d, sym (ap (λ (z : Objects). cell_in z.spaces.old x) same) ∙ there, same_still d d refl)
     | inr h ↦ shell_was o.spaces (address_after_cell o.spaces.old p.cursor) h.0 h.1 h.3 x d (sym (ap (λ (z : Objects). cell_in z.spaces.old x) h.4) ∙ there)
   ]
 
-  pub looked_else : IsElseStill o (looked_on p o).1
+  pub looked_else : IsElseStill o (next_shell_step p o).1
   looked_else = elim (looked_cases p o) [
-    | inl same ↦ same_else_still o (looked_on p o).1 same
+    | inl same ↦ same_else_still o (next_shell_step p o).1 same
     | inr h ↦ (
         let e = h.4 in
         record { literals = ap (λ (x : Objects). x.literals) e; grey = ap (λ (x : Objects). x.spaces.grey) e; has_marked = ap (λ (x : Objects). x.spaces.has_marked) e; is_open = ap (λ (x : Objects). x.spaces.is_open) e })
   ]
 
   -- what is live stays live, and nothing else becomes so
-  pub looked_live : (x : Addr) → is_live Allocate (looked_on p o).1.spaces x ≡ is_live Allocate o.spaces x
+  pub looked_live : (x : Addr) → is_live Allocate (next_shell_step p o).1.spaces x ≡ is_live Allocate o.spaces x
   looked_live x = ap (λ t. is_permanent x || t) (elim (looked_cases p o) [
     | inl same ↦ ap (λ (z : Objects). is_marked_old z.spaces x) same
     | inr h ↦
@@ -117,7 +117,7 @@ module _ (p : Progress) (o : Objects) where
 
   module _ (tree : Tree) (has_round : Bool) (words : ℕ) (sound : IsSoundHeap tree Allocate has_round words p o.spaces) where
     -- no new object changes
-    pub looked_new : (y : Addr) (d : Cell) → cell_in o.spaces.new y ≡ Some d → cell_in (looked_on p o).1.spaces.new y ≡ Some d
+    pub looked_new : (y : Addr) (d : Cell) → cell_in o.spaces.new y ≡ Some d → cell_in (next_shell_step p o).1.spaces.new y ≡ Some d
     looked_new y d there = elim (looked_cases p o) [
       | inl same ↦ ap (λ (z : Objects). cell_in z.spaces.new y) same ∙ there
       | inr h ↦
@@ -126,7 +126,7 @@ module _ (p : Progress) (o : Objects) where
     ]
 
     -- and what comes is the copy of a marked object that had none
-    pub looked_was_new : (y : Addr) (d : Cell) → cell_in (looked_on p o).1.spaces.new y ≡ Some d → (cell_in o.spaces.new y ≡ Some d)
+    pub looked_was_new : (y : Addr) (d : Cell) → cell_in (next_shell_step p o).1.spaces.new y ≡ Some d → (cell_in o.spaces.new y ≡ Some d)
         ⊎ ((c : Cell) × (cell_in o.spaces.old (address_after_cell o.spaces.old p.cursor) ≡ Some c) × (c.marked ≡ true) × (c.other ≡ None)
         × (y.number ≡ (next_address o.spaces.new).number) × (d ≡ shell_of (address_after_cell o.spaces.old p.cursor) c))
     looked_was_new y d there = elim (looked_cases p o) [
@@ -161,8 +161,8 @@ module _ (tree : Tree) (p : Progress) (o : Objects) where
         ],
       )
 
-  pub copied_new : (y : Addr) (d : Cell) → cell_in o.spaces.new y ≡ Some d → (e : Cell) × (cell_in (copied_on tree p o).1.spaces.new y ≡ Some e) × IsFilling y d e
-  copied_new y d there = new_then (copied_on tree p o).1 (copied_cases tree p o) y d there
+  pub copied_new : (y : Addr) (d : Cell) → cell_in o.spaces.new y ≡ Some d → (e : Cell) × (cell_in (next_copy_step tree p o).1.spaces.new y ≡ Some e) × IsFilling y d e
+  copied_new y d there = new_then (next_copy_step tree p o).1 (copied_cases tree p o) y d there
 
   new_was : (o' : Objects) → IsStep tree p o o' → (y : Addr) (e : Cell) → cell_in o'.spaces.new y ≡ Some e → (d : Cell) × (cell_in o.spaces.new y ≡ Some d) × IsFilling y d e
   new_was o' (none_stored equal) y e there = (e, sym (ap (λ (z : Objects). cell_in z.spaces.new y) equal) ∙ there, same refl)
@@ -178,8 +178,8 @@ module _ (tree : Tree) (p : Progress) (o : Objects) where
         ],
       )
 
-  pub copied_was_new : (y : Addr) (e : Cell) → cell_in (copied_on tree p o).1.spaces.new y ≡ Some e → (d : Cell) × (cell_in o.spaces.new y ≡ Some d) × IsFilling y d e
-  copied_was_new y e there = new_was (copied_on tree p o).1 (copied_cases tree p o) y e there
+  pub copied_was_new : (y : Addr) (e : Cell) → cell_in (next_copy_step tree p o).1.spaces.new y ≡ Some e → (d : Cell) × (cell_in o.spaces.new y ≡ Some d) × IsFilling y d e
+  copied_was_new y e there = new_was (next_copy_step tree p o).1 (copied_cases tree p o) y e there
 
   else_still : (o' : Objects) → IsStep tree p o o' → IsElseStill o o'
   else_still o' (none_stored equal) = same_else_still o o' equal
@@ -190,8 +190,8 @@ module _ (tree : Tree) (p : Progress) (o : Objects) where
     is_open = ap (λ (x : Objects). x.spaces.is_open) e;
   }
 
-  pub copied_else : IsElseStill o (copied_on tree p o).1
-  copied_else = else_still (copied_on tree p o).1 (copied_cases tree p o)
+  pub copied_else : IsElseStill o (next_copy_step tree p o).1
+  copied_else = else_still (next_copy_step tree p o).1 (copied_cases tree p o)
 
   -- the old block stays as it is
   old_still : (has_round : Bool) (words : ℕ) → IsSoundHeap tree Copy has_round words p o.spaces → (o' : Objects) → IsStep tree p o o' → o'.spaces.old ≡ o.spaces.old
@@ -201,12 +201,12 @@ module _ (tree : Tree) (p : Progress) (o : Objects) where
       let none = not_old o.spaces sound.blocks.spaces b d.0 d.1 in
       ap (λ (z : Objects). z.spaces.old) is ∙ unchanged_in (filled tree o.spaces c t p.copied_words) o.spaces.old b none
 
-  pub copied_old : (has_round : Bool) (words : ℕ) → IsSoundHeap tree Copy has_round words p o.spaces → (copied_on tree p o).1.spaces.old ≡ o.spaces.old
-  copied_old has_round words sound = old_still has_round words sound (copied_on tree p o).1 (copied_cases tree p o)
+  pub copied_old : (has_round : Bool) (words : ℕ) → IsSoundHeap tree Copy has_round words p o.spaces → (next_copy_step tree p o).1.spaces.old ≡ o.spaces.old
+  copied_old has_round words sound = old_still has_round words sound (next_copy_step tree p o).1 (copied_cases tree p o)
 
   -- and so does what is live, and each forward
-  pub copied_live : (has_round : Bool) (words : ℕ) → IsSoundHeap tree Copy has_round words p o.spaces → (x : Addr) → is_live Copy (copied_on tree p o).1.spaces x ≡ is_live Copy o.spaces x
+  pub copied_live : (has_round : Bool) (words : ℕ) → IsSoundHeap tree Copy has_round words p o.spaces → (x : Addr) → is_live Copy (next_copy_step tree p o).1.spaces x ≡ is_live Copy o.spaces x
   copied_live has_round words sound x = ap (λ (s : Cells). is_permanent x || is_marked_cell (cell_in s x)) (copied_old has_round words sound)
 
-  pub copied_forward : (has_round : Bool) (words : ℕ) → IsSoundHeap tree Copy has_round words p o.spaces → (x : Addr) → forward (copied_on tree p o).1.spaces x ≡ forward o.spaces x
+  pub copied_forward : (has_round : Bool) (words : ℕ) → IsSoundHeap tree Copy has_round words p o.spaces → (x : Addr) → forward (next_copy_step tree p o).1.spaces x ≡ forward o.spaces x
   copied_forward has_round words sound x = ap (λ (s : Cells). unwrap_or (other_of (cell_in s x)) x) (copied_old has_round words sound)

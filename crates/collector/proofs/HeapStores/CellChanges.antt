@@ -15,7 +15,7 @@ use Rattle.object_memory.proofs.TwoSpaces.TwoBlocks.{change-is_space}
 use Rattle.collector.specs.References.{SlotsPass, Test, holds_reference, reference_in}
 use Rattle.collector.specs.Phases.{HasCopied, HasLooked, is_live, is_marked_address, is_marked_cell, is_marked_old, is_new_address, is_read}
 use Rattle.collector.specs.Soundness.{AreBlocks, AreCopied, AreCopies, AreMarked, IsCopiedWord, IsInCopy, IsListed, IsLoaded, IsSoundHeap, copied_word}
-use Rattle.collector.specs.Holding.{HasNotBegun}
+use Rattle.collector.specs.Holds.{HasNotBegun}
 use Rattle.collector.specs.declared.progress.Progress.{Progress}
 use Rattle.collector.proofs.BlockWalks.ChangedBlocks.{IsOffset-change}
 use Rattle.collector.proofs.BlockWalks.CollectorOffsets.{HasCursor-change}
@@ -199,7 +199,7 @@ module _ (tree : Tree) (posted_phase : Phase) (has_round : Bool) (words : ℕ) (
 
     copies : AreCopied tree posted_phase p n
     copies = record {
-      bare = λ x c is early. let o = old_before x c is in other_was x o.0 c o.2 ∙ sound.copies.bare x o.0 o.1 early;
+      no_copy = λ x c is early. let o = old_before x c is in other_was x o.0 c o.2 ∙ sound.copies.no_copy x o.0 o.1 early;
       unmarked = λ x c is early. let o = old_before x c is in marked_was x o.0 c o.2 ∙ sound.copies.unmarked x o.0 o.1 early;
       out = out_stays;
       back = back_stays;

@@ -22,7 +22,7 @@ use Rattle.phase_handshake.specs.Handshakes.{Handshakes, IsClose}
 use Rattle.phase_handshake.specs.declared.posts.Seat.{Seat}
 use Rattle.collector.specs.Phases.{HasCopied, is_live, is_live_object, is_marked_address, is_marked_cell, is_new_address, no_progress}
 use Rattle.collector.specs.Soundness.{AreCopies, HasStored, IsInCopy, IsSoundHeap}
-use Rattle.collector.specs.Holding.{HasNotBegun, IsOnTime}
+use Rattle.collector.specs.Holds.{HasNotBegun, IsOnTime}
 use Rattle.collector.specs.declared.progress.Progress.{Progress}
 use Rattle.collector.specs.declared.progress.Stage.TheVariants.{Begins, Stored}
 use Rattle.collector.proofs.Addresses.Disjunctions.{false_is_true}
@@ -186,7 +186,7 @@ module _ (tree : Tree) (posted_phase : Phase) (has_round : Bool) (words : ℕ) (
     new_stays : cell_in m.new a ≡ Some c → (posted_phase ≢ Reclaim → c.other ≡ None)
         → ((d : Cell) → d.kind ≡ kind → AreStored tree (is_new_address m) d (f d))
         → IsSoundWith (change_at f m a)
-    new_stays lies bare new =
+    new_stays lies no_copy new =
         heap_stays tree posted_phase has_round words p m f f keeps keeps a a sound
         (record {
           old = λ d is. none_is_some d (sym (not_old m spaces a c lies) ∙ is);
@@ -201,7 +201,7 @@ module _ (tree : Tree) (posted_phase : Phase) (has_round : Bool) (words : ℕ) (
         beside before x y d e is is' were true t here here' = none_is_some d (sym (not_old m spaces a c lies) ∙ ap (cell_in m.old) (same_address a x here) ∙ is)
         beside before x y d e is is' were false true here here' =
             let same = same_cell (cell_in m.new a) (cell_in m.new y) c e lies is' (ap (cell_in m.new) (same_address a y here')) in
-            none_is_some x (sym (bare before) ∙ ap (λ (z : Cell). z.other) same ∙ were.back (inl before))
+            none_is_some x (sym (no_copy before) ∙ ap (λ (z : Cell). z.other) same ∙ were.back (inl before))
         beside before x y d e is is' were false false here here' = were
 
         copies : (x y : Addr) (d e : Cell) → cell_in m.old x ≡ Some d → d.other ≡ Some y → cell_in m.new y ≡ Some e → AreCopies tree posted_phase p m x d e → AreCopies tree posted_phase p m x (only_at f a x d) (only_at f a y e)
@@ -271,10 +271,10 @@ module _ (tree : Tree) (posted_phase : Phase) (has_round : Bool) (words : ℕ) (
           not_there = ap is_some (not_old m spaces a c lies)
 
           by_other : (r : Option Addr) → c.other ≡ r → IsSoundWith (with_both f g o a).spaces
-          by_other None bare =
-              let alone = change_copies-alone g f (keeps_size g right.keeps_new) (keeps_size f right.keeps_old) m a c (new_is_cell m spaces a c lies) bare in
+          by_other None no_copy =
+              let alone = change_copies-alone g f (keeps_size g right.keeps_new) (keeps_size f right.keeps_old) m a c (new_is_cell m spaces a c lies) no_copy in
               let is : (with_both f g o a).spaces ≡ change_at g m a = ap (λ t. if t then change_copies f g m a else change_copies g f m a) not_there ∙ alone in
-              subst IsSoundWith (sym is) (new_stays g right.keeps_new kind a c decoded lies (λ before. bare) (right.new refl))
+              subst IsSoundWith (sym is) (new_stays g right.keeps_new kind a c decoded lies (λ before. no_copy) (right.new refl))
           by_other (Some q) other =
               let u = sound.copies.back q a c lies other in
               let v = sound.copies.out q a u.0 u.1 u.2 in

@@ -11,7 +11,7 @@ use Rattle.object_memory.specs.Objects.{Objects}
 use Rattle.barriers.specs.Barriers.{forward_value, stored_static, with_marked}
 use Rattle.collector.specs.References.{ValuePasses}
 use Rattle.collector.specs.Phases.{is_live, is_new_address}
-use Rattle.collector.specs.Holding.{AnyLive, MarkedOnly, NewOnly, passes, static_may_hold}
+use Rattle.collector.specs.Holds.{AnyLive, MarkedOnly, NewOnly, passes, static_may_hold}
 use Rattle.collector.specs.declared.progress.Progress.{Progress}
 use Rattle.collector.proofs.Addresses.LiveForwards.{has_copies, is_old_alone, new_is_live}
 use Rattle.collector.proofs.HeapStores.ReachedCopies.{IsBeside, not_after}

@@ -20,7 +20,7 @@ use Rattle.barriers.specs.Barriers.{forward_value, reaches_both, stored_int, sto
 use Rattle.collector.specs.References.{ValuePasses, holds_reference, reference_in}
 use Rattle.collector.specs.Phases.{is_live, is_marked_address, is_new_address}
 use Rattle.collector.specs.Soundness.{IsSoundHeap, copied_word}
-use Rattle.collector.specs.Holding.{HasNotBegun, IsOnTime, is_flipping, is_marking, passes}
+use Rattle.collector.specs.Holds.{HasNotBegun, IsOnTime, is_flipping, is_marking, passes}
 use Rattle.collector.specs.declared.progress.Progress.{Progress}
 use Rattle.collector.proofs.Addresses.Disjunctions.{false_is_true}
 use Rattle.collector.proofs.Addresses.TagChanges.{monitor_keeps_tags, slot_keeps_tags}

@@ -43,7 +43,7 @@ module _ (tree : Tree) (posted_phase : Phase) (has_round : Bool) (words : ℕ) (
     copies_own = by_other c.other refl
       where
         by_other : (r : Option Addr) → c.other ≡ r → cell_at (change_copies f g m a) a ≡ Some (f c)
-        by_other None bare = ap (λ n. cell_at n a) (change_copies-alone f g (keeps_size f keeps) (keeps_size g keeps') m a c lies bare) ∙ change-own f m a c lies
+        by_other None no_copy = ap (λ n. cell_at n a) (change_copies-alone f g (keeps_size f keeps) (keeps_size g keeps') m a c lies no_copy) ∙ change-own f m a c lies
         by_other (Some b) other =
             let u = other_lies tree posted_phase has_round words p o sound a c lies b other in
             change_copies-own f g (keeps_size f keeps) (keeps_size g keeps') m a b c u.0 lies other u.1.lies u.1.apart
@@ -57,7 +57,7 @@ module _ (tree : Tree) (posted_phase : Phase) (has_round : Bool) (words : ℕ) (
     copies_else x apart beside = by_other c.other refl
       where
         by_other : (r : Option Addr) → c.other ≡ r → cell_at (change_copies f g m a) x ≡ cell_at m x
-        by_other None bare = ap (λ n. cell_at n x) (change_copies-alone f g (keeps_size f keeps) (keeps_size g keeps') m a c lies bare) ∙ change-other f (keeps_size f keeps) m a x (different a x apart)
+        by_other None no_copy = ap (λ n. cell_at n x) (change_copies-alone f g (keeps_size f keeps) (keeps_size g keeps') m a c lies no_copy) ∙ change-other f (keeps_size f keeps) m a x (different a x apart)
         by_other (Some b) other =
             let u = other_lies tree posted_phase has_round words p o sound a c lies b other in
             change_copies-else f g (keeps_size f keeps) (keeps_size g keeps') m a b c u.0 lies other u.1.lies u.1.apart x (different a x apart) (different b x (λ same. beside (other ∙ ap Some same)))

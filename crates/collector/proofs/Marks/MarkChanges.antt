@@ -13,7 +13,7 @@ use Rattle.object_memory.proofs.TwoSpaces.TwoBlocks.{either, new_is_cell, old_is
 use Rattle.collector.specs.References.{SlotsPass, holds_reference, is_permanent, reference_in}
 use Rattle.collector.specs.Phases.{is_live, is_live_object, is_marked_address, is_marked_old, is_new, is_new_address}
 use Rattle.collector.specs.Soundness.{AreBlocks, AreCopied, AreMarked, IsSoundHeap}
-use Rattle.collector.specs.Holding.{AnyLive, Hold, MarkedOnly, NewOnly, passes}
+use Rattle.collector.specs.Holds.{AnyLive, Hold, MarkedOnly, NewOnly, passes}
 use Rattle.collector.specs.declared.progress.Progress.{Progress}
 use Rattle.collector.proofs.BlockWalks.CollectorOffsets.{HasCursor-else}
 use Rattle.collector.proofs.Addresses.Tests.{mark_is, marked_cell, never, none_is_new, old_cell, old_is}
@@ -151,13 +151,13 @@ pub AreCopied-in_mark : (tree : Tree) (p : Progress) (m : Spaces) → m.new.cell
     → ((a : Addr) (c : Cell) → cell_in m.old a ≡ Some c → c.other ≡ None)
     → ((a : Addr) (c : Cell) → cell_in m.old a ≡ Some c → SlotsPass tree (is_live Mark m) c)
     → HasShellRoom m → AreCopied tree Mark p m
-AreCopied-in_mark tree p m none bare references room = record {
-  bare = λ a c e early. bare a c e;
+AreCopied-in_mark tree p m none no_copy references room = record {
+  no_copy = λ a c e early. no_copy a c e;
   unmarked = λ a c e between. never (sym between);
-  out = λ a b c e other. absurd (none-some b (sym (bare a c e) ∙ other));
+  out = λ a b c e other. absurd (none-some b (sym (no_copy a c e) ∙ other));
   back = λ a b d e other. absurd (none-some d (sym (none_is_new m b none) ∙ e));
   shells = λ a c e marked looked. absurd looked;
-  marked_only = λ a c e other. absurd (other (bare a c e));
+  marked_only = λ a c e other. absurd (other (no_copy a c e));
   old_references = λ a c e read. references a c e;
   new_references = λ b d e. absurd (none-some d (sym (none_is_new m b none) ∙ e));
   room = λ early. room;
@@ -167,7 +167,7 @@ module _ (tree : Tree) (has_round : Bool) (words : ℕ) (p : Progress) (m n : Sp
   AreCopied-darker : (q : Progress) → AreCopied tree Mark q n
   AreCopied-darker q = AreCopied-in_mark tree q n
       (ap (λ s. s.cells) darker.new ∙ sound.blocks.none_new refl)
-      (λ a d e. let c = darker.was a d e in c.2.other ∙ sound.copies.bare a c.0 c.1 refl)
+      (λ a d e. let c = darker.was a d e in c.2.other ∙ sound.copies.no_copy a c.0 c.1 refl)
       (λ a d e. let c = darker.was a d e in slots_then m n darker tree c.0 d c.2 (sound.copies.old_references a c.0 c.1 refl))
       (darker.room sound.blocks.spaces (sound.copies.room (inl refl)))
 

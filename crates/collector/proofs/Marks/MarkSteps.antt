@@ -11,10 +11,10 @@ use Rattle.object_memory.specs.Cells.{Cell, cell_in, literal_number}
 use Rattle.object_memory.specs.Spaces.{Spaces, cell_at, is_white, marked_if, set_mark}
 use Rattle.object_memory.specs.Objects.{Objects, object_cell}
 use Rattle.object_memory.proofs.Counts.{change-there}
-use Rattle.barriers.specs.Barriers.{is_value_there, with_marked}
+use Rattle.barriers.specs.Barriers.{is_value_in_heap, with_marked}
 use Rattle.collector.specs.Phases.{is_marked_cell, is_marked_old}
-use Rattle.collector.specs.Marking.{mark_step, marked_on, oldest_cell, slot_scanned}
-use Rattle.collector.specs.Conditions.{AreThere}
+use Rattle.collector.specs.MarkSteps.{mark_step, next_mark_step, oldest_cell, slot_scanned}
+use Rattle.collector.specs.Conditions.{AreValuesInHeap}
 use Rattle.collector.specs.declared.progress.Progress.{Progress}
 
 -- ---- what a mark keeps
@@ -40,13 +40,13 @@ or_kept : (x y s t : Bool) → (s ≡ true → t ≡ true) → (x || (y || s)) �
 or_kept false false s t h e = h e
 or_kept _ _ s t h e = refl
 
-there_kept : (o : Objects) (v w : Value) → is_value_there o w ≡ true → is_value_there (with_marked o v) w ≡ true
+there_kept : (o : Objects) (v w : Value) → is_value_in_heap o w ≡ true → is_value_in_heap (with_marked o v) w ≡ true
 there_kept o v (Ref b) e = or_kept (b.number == 0) (is_some (literal_number b)) (is_some (object_cell o b)) (is_some (object_cell (with_marked o v) b)) (cell_kept o v b) e
 there_kept o v _ e = e
 
 -- what is there
-pub all_kept : (o : Objects) (v : Value) (vs : List Value) → AreThere o vs → AreThere (with_marked o v) vs
-all_kept o v vs all = All-weaker (λ w. is_value_there o w ≡ true) (λ w. is_value_there (with_marked o v) w ≡ true) (there_kept o v) vs all
+pub all_kept : (o : Objects) (v : Value) (vs : List Value) → AreValuesInHeap o vs → AreValuesInHeap (with_marked o v) vs
+all_kept o v vs all = All-weaker (λ w. is_value_in_heap o w ≡ true) (λ w. is_value_in_heap (with_marked o v) w ≡ true) (there_kept o v) vs all
 
 -- ---- the oldest grey object
 
@@ -69,7 +69,7 @@ abbrev Outcome : Type 0
 Outcome = Progress × Objects × Bool
 
 module _ (tree : Tree) (p : Progress) (o : Objects) where
-  pub none_scanned : None ≡ slice_get o.spaces.grey 0 → ◌≡◌ {A = Outcome} (p, o, false) (marked_on tree p o)
+  pub none_scanned : None ≡ slice_get o.spaces.grey 0 → ◌≡◌ {A = Outcome} (p, o, false) (next_mark_step tree p o)
   none_scanned e = by_list o.spaces.grey e
     where
       by_list : (gs : List Addr) → None ≡ slice_get gs 0 → ◌≡◌ {A = Outcome} (p, o, false) (mark_step tree p o gs (oldest_cell o gs))
@@ -78,7 +78,7 @@ module _ (tree : Tree) (p : Progress) (o : Objects) where
 
   module _ (g : Addr) (c : Cell) (at : cell_in o.spaces.old g ≡ Some c) where
     pub slot_done : Some g ≡ slice_get o.spaces.grey 0 → p.scanned_slots < length c.slots
-        → ◌≡◌ {A = Outcome} (record p { scanned_slots = p.scanned_slots + 1 }, slot_scanned tree o c p.scanned_slots, true) (marked_on tree p o)
+        → ◌≡◌ {A = Outcome} (record p { scanned_slots = p.scanned_slots + 1 }, slot_scanned tree o c p.scanned_slots, true) (next_mark_step tree p o)
     slot_done e less = by_list o.spaces.grey e
       where
         by_list : (gs : List Addr) → Some g ≡ slice_get gs 0
@@ -91,7 +91,7 @@ module _ (tree : Tree) (p : Progress) (o : Objects) where
             rw (there, test) refl
 
     pub object_done : Some g ≡ slice_get o.spaces.grey 0 → length c.slots ≤ p.scanned_slots
-        → ◌≡◌ {A = Outcome} (record p { scanned_slots = 0 }, record o { spaces = record o.spaces { grey = drop 1 o.spaces.grey } }, true) (marked_on tree p o)
+        → ◌≡◌ {A = Outcome} (record p { scanned_slots = 0 }, record o { spaces = record o.spaces { grey = drop 1 o.spaces.grey } }, true) (next_mark_step tree p o)
     object_done e all = by_list o.spaces.grey e
       where
         by_list : (gs : List Addr) → Some g ≡ slice_get gs 0

@@ -16,8 +16,8 @@ use Rattle.barriers.specs.Barriers.{with_marked}
 use Rattle.collector.specs.References.{SlotsPass, ValuePasses, holds_reference, reference_in}
 use Rattle.collector.specs.Phases.{is_live, is_marked_cell, is_marked_address, is_marked_old}
 use Rattle.collector.specs.Soundness.{AreMarked, IsListed, IsSoundHeap}
-use Rattle.collector.specs.Marking.{is_none_grey, mark_step, marked_on, oldest_cell, slot_scanned, statics_scanned, with_all_marked, without_oldest, word_of}
-use Rattle.collector.specs.Holding.{static_may_hold}
+use Rattle.collector.specs.MarkSteps.{is_none_grey, mark_step, next_mark_step, oldest_cell, slot_scanned, statics_scanned, with_all_marked, without_oldest, word_of}
+use Rattle.collector.specs.Holds.{static_may_hold}
 use Rattle.collector.specs.declared.progress.Progress.{Progress}
 use Rattle.collector.proofs.Addresses.Tests.{never, static_may_hold_live, value_weakens}
 use Rattle.collector.proofs.Marks.MarkChanges.{AreDarker, AreDarker-same, IsSoundHeap-darker}
@@ -236,18 +236,18 @@ module _ (tree : Tree) (has_round : Bool) (words : ℕ) (p : Progress) (o : Obje
   marked_marks _ e _ is = marks
 
   -- a step of marking changes marks alone
-  pub AreDarker-marked_on : AreDarker o.spaces (marked_on tree p o).1.spaces
-  AreDarker-marked_on = marked_darker o.spaces.grey refl (oldest_cell o o.spaces.grey) refl
+  pub AreDarker-next_mark_step : AreDarker o.spaces (next_mark_step tree p o).1.spaces
+  AreDarker-next_mark_step = marked_darker o.spaces.grey refl (oldest_cell o o.spaces.grey) refl
 
   -- and keeps what is true of the heap
-  pub IsSoundHeap-marked_on : IsSoundHeap tree Mark has_round words (marked_on tree p o).0 (marked_on tree p o).1.spaces
-  IsSoundHeap-marked_on =
-      IsSoundHeap-darker tree has_round words p o.spaces (marked_on tree p o).1.spaces sound AreDarker-marked_on has_round (marked_on tree p o).0
+  pub IsSoundHeap-next_mark_step : IsSoundHeap tree Mark has_round words (next_mark_step tree p o).0 (next_mark_step tree p o).1.spaces
+  IsSoundHeap-next_mark_step =
+      IsSoundHeap-darker tree has_round words p o.spaces (next_mark_step tree p o).1.spaces sound AreDarker-next_mark_step has_round (next_mark_step tree p o).0
       (marked_marks o.spaces.grey refl (oldest_cell o o.spaces.grey) refl)
 
   -- there was one to do where something was grey
-  pub marked_on-works : (marked_on tree p o).2 ≡ not (is_none_grey o.spaces.grey)
-  marked_on-works = by_grey o.spaces.grey refl
+  pub next_mark_step-works : (next_mark_step tree p o).2 ≡ not (is_none_grey o.spaces.grey)
+  next_mark_step-works = by_grey o.spaces.grey refl
     where
       by_cell : (g : Addr) (rest : List Addr) (cell : Option Cell) → is_marked_cell cell ≡ true → (mark_step tree p o (g ∷ rest) cell).2 ≡ true
       by_cell g rest None dark = never dark
@@ -263,8 +263,8 @@ module _ (tree : Tree) (has_round : Bool) (words : ℕ) (p : Progress) (o : Obje
 
 module _ (tree : Tree) (p : Progress) (o : Objects) where
   -- of the progress it changes the scanned slots alone
-  pub marked_on-progress : (marked_on tree p o).0 ≡ record p { scanned_slots = (marked_on tree p o).0.scanned_slots }
-  marked_on-progress = by_step o.spaces.grey (oldest_cell o o.spaces.grey)
+  pub next_mark_step-progress : (next_mark_step tree p o).0 ≡ record p { scanned_slots = (next_mark_step tree p o).0.scanned_slots }
+  next_mark_step-progress = by_step o.spaces.grey (oldest_cell o o.spaces.grey)
     where
       by_slots : (rest : List Addr) (c : Cell) (b : Bool)
           → (step_by tree p o rest c b).0 ≡ record p { scanned_slots = (step_by tree p o rest c b).0.scanned_slots }
@@ -277,8 +277,8 @@ module _ (tree : Tree) (p : Progress) (o : Objects) where
       by_step _ _ = refl
 
   -- a mark of before is not forgotten
-  pub marked_on-noted : o.spaces.has_marked ≡ true → (marked_on tree p o).1.spaces.has_marked ≡ true
-  marked_on-noted h = by_step o.spaces.grey (oldest_cell o o.spaces.grey)
+  pub next_mark_step-noted : o.spaces.has_marked ≡ true → (next_mark_step tree p o).1.spaces.has_marked ≡ true
+  next_mark_step-noted h = by_step o.spaces.grey (oldest_cell o o.spaces.grey)
     where
       by_kind : (v : Value) (b : Bool) → (if b then with_marked o v else o).spaces.has_marked ≡ true
       by_kind v true = with_marked-noted o v h
@@ -293,8 +293,8 @@ module _ (tree : Tree) (p : Progress) (o : Objects) where
       by_step _ _ = h
 
   -- no monitor of a literal changes
-  pub marked_on-literals : (marked_on tree p o).1.literals ≡ o.literals
-  marked_on-literals = by_step o.spaces.grey (oldest_cell o o.spaces.grey)
+  pub next_mark_step-literals : (next_mark_step tree p o).1.literals ≡ o.literals
+  next_mark_step-literals = by_step o.spaces.grey (oldest_cell o o.spaces.grey)
     where
       by_kind : (v : Value) (b : Bool) → (if b then with_marked o v else o).literals ≡ o.literals
       by_kind v true = with_marked-literals o v

@@ -19,8 +19,8 @@ use Rattle.barriers.specs.Barriers.{with_marked}
 use Rattle.collector.specs.References.{SlotsPass, ValuePasses, holds_reference, is_permanent, reference_in}
 use Rattle.collector.specs.Phases.{is_live, is_marked_address, is_marked_old}
 use Rattle.collector.specs.Soundness.{AreMarked, IsListed, IsSoundHeap}
-use Rattle.collector.specs.Marking.{with_all_marked}
-use Rattle.collector.specs.Holding.{HasNotBegun}
+use Rattle.collector.specs.MarkSteps.{with_all_marked}
+use Rattle.collector.specs.Holds.{HasNotBegun}
 use Rattle.collector.specs.declared.progress.Progress.{Progress}
 use Rattle.collector.proofs.Addresses.Tests.{mark_is, marked_cell, never, old_cell, slots_weaken, value_weakens}
 use Rattle.collector.proofs.Marks.MarkChanges.{AreDarker, AreDarker-same, AreDarker-trans, IsDarker, IsDarker-refl, IsSoundHeap-darker, stays_live, stays_marked, stays_marked_address}
@@ -31,9 +31,9 @@ same_address a b e = ap (λ (n : ℕ). record { number = n }) (sym e)
 -- ---- a mark
 
 -- an unmarked old cell
-white_by : (o : Option Cell) → is_white o ≡ true → (c : Cell) × (o ≡ Some c) × (c.marked ≡ false)
-white_by None e = never e
-white_by (Some c) e = (c, refl, unmarked c.marked e)
+count_if_white : (o : Option Cell) → is_white o ≡ true → (c : Cell) × (o ≡ Some c) × (c.marked ≡ false)
+count_if_white None e = never e
+count_if_white (Some c) e = (c, refl, unmarked c.marked e)
   where
     unmarked : (b : Bool) → (if b then false else true) ≡ true → b ≡ false
     unmarked true e = never e
@@ -146,7 +146,7 @@ module _ (m : Spaces) (spaces : AreSpaces m) (q : Addr) (c : Cell) (lies : cell_
 module _ (m : Spaces) (spaces : AreSpaces m) (q : Addr) where
   darker_by : (b : Bool) → is_white (cell_in m.old q) ≡ b → AreDarker m (marked_if b m q)
   darker_by false e = AreDarker-same m m refl refl refl
-  darker_by true e = let c = white_by (cell_in m.old q) e in AreDarker-marked m spaces q c.0 c.1 c.2
+  darker_by true e = let c = count_if_white (cell_in m.old q) e in AreDarker-marked m spaces q c.0 c.1 c.2
 
   -- a mark changes marks alone
   pub AreDarker-mark : AreDarker m (mark m q).0
@@ -155,7 +155,7 @@ module _ (m : Spaces) (spaces : AreSpaces m) (q : Addr) where
   marks_by : (b : Bool) → is_white (cell_in m.old q) ≡ b → (tree : Tree) (has_round : Bool) (p : Progress) → AreMarked tree has_round p m
       → AreMarked tree has_round p (marked_if b m q)
   marks_by false e tree has_round p marks = marks
-  marks_by true e tree has_round p marks = let c = white_by (cell_in m.old q) e in AreMarked-marked m spaces q c.0 c.1 c.2 tree has_round p marks
+  marks_by true e tree has_round p marks = let c = count_if_white (cell_in m.old q) e in AreMarked-marked m spaces q c.0 c.1 c.2 tree has_round p marks
 
   -- and keeps what is true of them
   pub AreMarked-mark : (tree : Tree) (has_round : Bool) (p : Progress) → AreMarked tree has_round p m → AreMarked tree has_round p (mark m q).0
@@ -174,7 +174,7 @@ module _ (m : Spaces) (spaces : AreSpaces m) (q : Addr) where
   all_grey_by : (b : Bool) → is_white (cell_in m.old q) ≡ b → ((a : Addr) → is_marked_old m a ≡ true → IsListed m.grey a) → (a : Addr)
       → is_marked_old (marked_if b m q) a ≡ true → IsListed (marked_if b m q).grey a
   all_grey_by false e grey = grey
-  all_grey_by true e grey = let c = white_by (cell_in m.old q) e in all_grey_then m spaces q c.0 c.1 c.2 grey
+  all_grey_by true e grey = let c = count_if_white (cell_in m.old q) e in all_grey_then m spaces q c.0 c.1 c.2 grey
 
   -- a thread that is late marks, and the collector has not begun still
   pub HasNotBegun-mark : (has_round : Bool) (p : Progress) → HasNotBegun Mark has_round p m → HasNotBegun Mark has_round p (mark m q).0

@@ -21,7 +21,7 @@ use Rattle.barriers.specs.Barriers.{with_marked}
 use Rattle.collector.specs.References.{SlotsPass, Test, ValuePasses, holds_reference, is_permanent, reference_in}
 use Rattle.collector.specs.Phases.{is_live, is_live_object, is_marked_address, is_marked_cell, is_marked_old, is_new}
 use Rattle.collector.specs.Soundness.{AreBlocks, AreCopied, AreMarked, IsListed, IsSoundHeap}
-use Rattle.collector.specs.Holding.{AnyLive, HasNotBegun, Hold, MarkedOnly, NewOnly, passes}
+use Rattle.collector.specs.Holds.{AnyLive, HasNotBegun, Hold, MarkedOnly, NewOnly, passes}
 use Rattle.collector.specs.declared.progress.Progress.{Progress}
 use Rattle.collector.proofs.BlockWalks.CollectorOffsets.{HasCursor-else}
 use Rattle.collector.proofs.Addresses.Disjunctions.{false_is_true, either_true, or_first, or_second, or_more, or_both}
@@ -200,17 +200,17 @@ module _ (m : Spaces) (q : Addr) where
       none_grey = λ closed. false_is_true (sym closed);
     }
 
-    bare : (x : Addr) (d : Cell) → cell_in n.old x ≡ Some d → d.other ≡ None
-    bare x d is = let u = was_old x d is in marked_other u.0 d (but_marked x u.0 d u.2) ∙ sound.copies.bare x u.0 u.1 refl
+    no_copy : (x : Addr) (d : Cell) → cell_in n.old x ≡ Some d → d.other ≡ None
+    no_copy x d is = let u = was_old x d is in marked_other u.0 d (but_marked x u.0 d u.2) ∙ sound.copies.no_copy x u.0 u.1 refl
 
     copies : AreCopied tree Mark p n
     copies = record {
-      bare = λ x d is early. bare x d is;
+      no_copy = λ x d is early. no_copy x d is;
       unmarked = λ x d is closed. false_is_true (sym closed);
-      out = λ x y d is other. none_is_some y (sym (bare x d is) ∙ other);
+      out = λ x y d is other. none_is_some y (sym (no_copy x d is) ∙ other);
       back = λ x y d is. absurd (no_new y d is);
       shells = λ x d is marked looked. elim looked [ ];
-      marked_only = λ x d is some. absurd (some (bare x d is));
+      marked_only = λ x d is some. absurd (some (no_copy x d is));
       old_references = λ x d is read.
           let u = was_old x d is in
           pass_then tree (is_live Mark m) (is_live Mark n) u.0 d (live_grows m n white_grows Mark) (but_marked x u.0 d u.2) (sound.copies.old_references x u.0 u.1 refl);

@@ -17,7 +17,7 @@ use Rattle.collector.specs.declared.progress.Progress.{Progress}
 
 -- nothing is noted at it, and each reference in its slots is null, a literal or an object's
 pub record IsQuiet (tree : Tree) (m : Spaces) (c : Cell) : Type 0 where
-  pub bare : c.other ≡ None
+  pub no_copy : c.other ≡ None
   pub unmarked : c.marked ≡ false
   pub references : SlotsPass tree (is_live Idle m) c
 
@@ -41,12 +41,12 @@ module _ (tree : Tree) (has_round : Bool) (words : ℕ) (p : Progress) (m : Spac
   quiet_is_sound blocks each = record {
     blocks = blocks;
     copies = record {
-      bare = λ a c lies early. (each a c lies).bare;
+      no_copy = λ a c lies early. (each a c lies).no_copy;
       unmarked = λ a c lies idle. (each a c lies).unmarked;
-      out = λ a b c lies out. none_is_some b (sym (each a c lies).bare ∙ out);
+      out = λ a b c lies out. none_is_some b (sym (each a c lies).no_copy ∙ out);
       back = λ a b d lies back. absurd (nothing_new blocks b d lies);
       shells = λ a c lies marked looked. absurd looked;
-      marked_only = λ a c lies other. absurd (other (each a c lies).bare);
+      marked_only = λ a c lies other. absurd (other (each a c lies).no_copy);
       old_references = λ a c lies read. (each a c lies).references;
       new_references = λ b d lies. absurd (nothing_new blocks b d lies);
       room = λ e. absurd (idle_is_not Idle e refl);

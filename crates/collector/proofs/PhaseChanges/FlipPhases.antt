@@ -58,9 +58,9 @@ module _ (tree : Tree) (posted_phase next : Phase) (has_round : Bool) (words : �
   }
 
   -- all of it together
-  copied_on : AreCopied tree next p' m
-  copied_on = record {
-    bare = λ a c lies e. sound.copies.bare a c lies (early ∙ e);
+  next_copy_step : AreCopied tree next p' m
+  next_copy_step = record {
+    no_copy = λ a c lies e. sound.copies.no_copy a c lies (early ∙ e);
     unmarked = λ a c lies e. sound.copies.unmarked a c lies (cycle ∙ e);
     out = λ a b c lies other. (let r = sound.copies.out a b c lies other in (r.0, r.1, copies_on a c r.0 r.2));
     back = sound.copies.back;
@@ -73,7 +73,7 @@ module _ (tree : Tree) (posted_phase next : Phase) (has_round : Bool) (words : �
 
   -- the heap is sound
   pub sound_on : IsSoundHeap tree next has_round words p' m
-  sound_on = record { blocks = blocks_on; copies = copied_on; cursor = HasCursor-else next p' m making filling; loaded = λ is. elim (filling is) [ ]; marks = λ is. elim (marking is) [ ]; cleared = cleared }
+  sound_on = record { blocks = blocks_on; copies = next_copy_step; cursor = HasCursor-else next p' m making filling; loaded = λ is. elim (filling is) [ ]; marks = λ is. elim (marking is) [ ]; cleared = cleared }
 
 -- whether the phase after one comes with the same heap, whose copies are made
 abbrev pub is_flip : Phase → Bool

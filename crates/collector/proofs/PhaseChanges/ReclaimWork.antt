@@ -18,8 +18,8 @@ use Rattle.collector.proofs.BlockWalks.ChangedBlocks.{IsOffset-cell, IsOffset-ch
 use Rattle.collector.proofs.BlockWalks.CollectorOffsets.{HasCursor-begun, HasCursor-else}
 use Rattle.collector.specs.Phases.{is_new_address, no_progress}
 use Rattle.collector.specs.Soundness.{AreBlocks, IsCleared, AreCopied, AreCopies, IsSoundHeap}
-use Rattle.collector.specs.Flips.{cleared_at, cleared_on, retire_old}
-use Rattle.collector.specs.Holding.{Hold, passes}
+use Rattle.collector.specs.Flips.{clear_step_at, next_clear_step, retire_old}
+use Rattle.collector.specs.Holds.{Hold, passes}
 use Rattle.collector.specs.declared.progress.Progress.{Progress}
 use Rattle.collector.proofs.Addresses.GrowingBlocks.{TestsStay, new_stays, passes_stays, slots_weaken, some_there}
 use Rattle.collector.proofs.BlockWalks.FirstCells.{IsFound, found_is, none_found}
@@ -170,7 +170,7 @@ module _ (tree : Tree) (has_round : Bool) (words : ℕ) (p : Progress) (m : Spac
 
   clear_copied : AreCopied tree Reclaim p' m'
   clear_copied = record {
-    bare = λ a c lies e. absurd cc;
+    no_copy = λ a c lies e. absurd cc;
     unmarked = λ a c lies e. absurd cc;
     out = clear_out;
     back = clear_back;
@@ -218,56 +218,56 @@ module _ (tree : Tree) (has_round : Bool) (words : ℕ) (p : Progress) (o : Obje
       (p, o, false)
 
   -- a step with a cell that is found
-  step_is : (at : ℕ) (c : Cell) → cell_in m.new (record { number = at }) ≡ Some c → cleared_at p o (Some at) ≡ step_to at (Some c)
+  step_is : (at : ℕ) (c : Cell) → cell_in m.new (record { number = at }) ≡ Some c → clear_step_at p o (Some at) ≡ step_to at (Some c)
   step_is at c lies = ap (step_to at) lies
 
   -- by what is found
-  sound_by : (x : Option ℕ) → found_in is_noted m.new (m.new.start + p.cursor) ≡ x → IsSoundHeap tree Reclaim has_round words (cleared_at p o x).0 (cleared_at p o x).1.spaces
+  sound_by : (x : Option ℕ) → found_in is_noted m.new (m.new.start + p.cursor) ≡ x → IsSoundHeap tree Reclaim has_round words (clear_step_at p o x).0 (clear_step_at p o x).1.spaces
   sound_by None is = sound
   sound_by (Some at) is =
       let found = found_is is_noted m.new (m.new.start + p.cursor) at is in
       subst (λ (x : Progress × Objects × Bool). IsSoundHeap tree Reclaim has_round words x.0 x.1.spaces) (sym (step_is at found.cell found.lies)) (one_sound tree has_round words p m sound at found)
 
   -- it keeps the heap sound
-  pub cleared_sound : IsSoundHeap tree Reclaim has_round words (cleared_on p o).0 (cleared_on p o).1.spaces
+  pub cleared_sound : IsSoundHeap tree Reclaim has_round words (next_clear_step p o).0 (next_clear_step p o).1.spaces
   cleared_sound = sound_by (found_in is_noted m.new (m.new.start + p.cursor)) refl
 
-  stays_by : (x : Option ℕ) → found_in is_noted m.new (m.new.start + p.cursor) ≡ x → TestsStay m (cleared_at p o x).1.spaces
+  stays_by : (x : Option ℕ) → found_in is_noted m.new (m.new.start + p.cursor) ≡ x → TestsStay m (clear_step_at p o x).1.spaces
   stays_by None is = record { old = λ a e. e; marked = λ a e. e; new = λ a e. e }
   stays_by (Some at) is =
       let found = found_is is_noted m.new (m.new.start + p.cursor) at is in
       subst (λ (x : Progress × Objects × Bool). TestsStay m x.1.spaces) (sym (step_is at found.cell found.lies)) (one_stays tree has_round words p m sound at found)
 
   -- what is old, marked or new stays so
-  pub cleared_tests : TestsStay m (cleared_on p o).1.spaces
+  pub cleared_tests : TestsStay m (next_clear_step p o).1.spaces
   cleared_tests = stays_by (found_in is_noted m.new (m.new.start + p.cursor)) refl
 
   -- and what may be held, for each hold
-  pub cleared_stays : (hold : Hold) (a : Addr) → passes hold Reclaim m a ≡ true → passes hold Reclaim (cleared_on p o).1.spaces a ≡ true
-  cleared_stays hold a pass = passes_stays m (cleared_on p o).1.spaces cleared_tests a hold Reclaim pass
+  pub cleared_stays : (hold : Hold) (a : Addr) → passes hold Reclaim m a ≡ true → passes hold Reclaim (next_clear_step p o).1.spaces a ≡ true
+  cleared_stays hold a pass = passes_stays m (next_clear_step p o).1.spaces cleared_tests a hold Reclaim pass
 
-  shows_by : (x : Option ℕ) → found_in is_noted m.new (m.new.start + p.cursor) ≡ x → (b : Addr) (c : Cell) → cell_at m b ≡ Some c → (d : Cell) × (object_cell (cleared_at p o x).1 b ≡ Some d) × ShowsSame c d
+  shows_by : (x : Option ℕ) → found_in is_noted m.new (m.new.start + p.cursor) ≡ x → (b : Addr) (c : Cell) → cell_at m b ≡ Some c → (d : Cell) × (object_cell (clear_step_at p o x).1 b ≡ Some d) × ShowsSame c d
   shows_by None is b c lies = (c, lies, record { kind = refl; slots = refl; monitor = refl })
   shows_by (Some at) is b c lies =
       let found = found_is is_noted m.new (m.new.start + p.cursor) at is in
       subst (λ (x : Progress × Objects × Bool). (d : Cell) × (object_cell x.1 b ≡ Some d) × ShowsSame c d) (sym (step_is at found.cell found.lies)) (one_shows tree has_round words p m sound at found b c lies)
 
   -- each object shows what it showed
-  pub cleared_shows : (b : Addr) (c : Cell) → object_cell o b ≡ Some c → (d : Cell) × (object_cell (cleared_on p o).1 b ≡ Some d) × ShowsSame c d
+  pub cleared_shows : (b : Addr) (c : Cell) → object_cell o b ≡ Some c → (d : Cell) × (object_cell (next_clear_step p o).1 b ≡ Some d) × ShowsSame c d
   cleared_shows b c lies = shows_by (found_in is_noted m.new (m.new.start + p.cursor)) refl b c lies
 
   -- ---- the end of the cycle
 
   -- a step that does nothing has found nothing
-  none_left_by : (x : Option ℕ) → found_in is_noted m.new (m.new.start + p.cursor) ≡ x → (cleared_at p o x).2 ≡ false → found_in is_noted m.new (m.new.start + p.cursor) ≡ None
+  none_left_by : (x : Option ℕ) → found_in is_noted m.new (m.new.start + p.cursor) ≡ x → (clear_step_at p o x).2 ≡ false → found_in is_noted m.new (m.new.start + p.cursor) ≡ None
   none_left_by None is e = is
   none_left_by (Some at) is e =
       let found = found_is is_noted m.new (m.new.start + p.cursor) at is in
-      let works : (cleared_at p o (Some at)).2 ≡ true = ap (λ (x : Progress × Objects × Bool). x.2) (step_is at found.cell found.lies) in
+      let works : (clear_step_at p o (Some at)).2 ≡ true = ap (λ (x : Progress × Objects × Bool). x.2) (step_is at found.cell found.lies) in
       absurd (let both : true ≡ false = sym works ∙ e in cc)
 
   -- where none is left to clear, no new object has a mark or another copy
-  module _ (done : (cleared_on p o).2 ≡ false) where
+  module _ (done : (next_clear_step p o).2 ≡ false) where
     -- each one is before the cursor of the collector, or was not found
     all_cleared : (b : Addr) (d : Cell) → cell_in m.new b ≡ Some d → is_noted d ≡ false
     all_cleared b d lies = by_index (nat_lt b.number (m.new.start + p.cursor)) refl
@@ -303,7 +303,7 @@ module _ (tree : Tree) (has_round : Bool) (words : ℕ) (p : Progress) (o : Obje
     -- no object has a copy, and all that is referred to is there
     closed_copied : AreCopied tree Idle no_progress (close_cycle m)
     closed_copied = record {
-      bare = λ a c lies e. (parts a c lies).1;
+      no_copy = λ a c lies e. (parts a c lies).1;
       unmarked = λ a c lies e. (parts a c lies).0;
       out = λ a b c lies other. elim (none-some b (sym (parts a c lies).1 ∙ other)) [ ];
       back = λ a b d lies other. elim (none-some d lies) [ ];

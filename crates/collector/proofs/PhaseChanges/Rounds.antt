@@ -18,8 +18,8 @@ use Rattle.phase_handshake.specs.Handshakes.{Handshakes, all_answered}
 use Rattle.collector.specs.References.{SlotsPass}
 use Rattle.collector.specs.Phases.{is_marked_address, is_marked_old, no_progress}
 use Rattle.collector.specs.Soundness.{AreMarked, IsListed, IsSoundHeap}
-use Rattle.collector.specs.Marking.{is_closed, is_none_grey}
-use Rattle.collector.specs.Holding.{HasNotBegun}
+use Rattle.collector.specs.MarkSteps.{is_closed, is_none_grey}
+use Rattle.collector.specs.Holds.{HasNotBegun}
 use Rattle.collector.specs.declared.progress.Progress.{Progress}
 use Rattle.collector.proofs.Addresses.Tests.{marked_cell, never, none_is_new}
 use Rattle.collector.proofs.BlockWalks.CollectorOffsets.{HasCursor-begun}
@@ -59,7 +59,7 @@ module _ (tree : Tree) (has_round : Bool) (words : ℕ) (p : Progress) (m : Spac
       none_grey = λ between. refl;
     };
     copies = AreCopied-in_mark tree no_progress (open_cycle m next) refl
-        (λ a c e. sound.copies.bare a c e refl)
+        (λ a c e. sound.copies.no_copy a c e refl)
         (λ a c e. sound.copies.old_references a c e refl)
         (HasShellRoom-opened m next grows);
     cursor = HasCursor-begun Mark (open_cycle m next);
@@ -119,12 +119,12 @@ module _ (tree : Tree) (has_round : Bool) (words : ℕ) (p : Progress) (m : Spac
       none_grey = λ between. never (sym between);
     };
     copies = record {
-      bare = λ a c e early. never early;
+      no_copy = λ a c e early. never early;
       unmarked = λ a c e between. never (sym between);
-      out = λ a b c e other. absurd (none-some b (sym (sound.copies.bare a c e refl) ∙ other));
+      out = λ a b c e other. absurd (none-some b (sym (sound.copies.no_copy a c e refl) ∙ other));
       back = λ a b d e other. absurd (none-some d (sym (none_is_new m b none_new) ∙ e));
       shells = λ a c e marked early. absurd (shells_then a c e early);
-      marked_only = λ a c e other. absurd (other (sound.copies.bare a c e refl));
+      marked_only = λ a c e other. absurd (other (sound.copies.no_copy a c e refl));
       old_references = closed;
       new_references = λ b d e. absurd (none-some d (sym (none_is_new m b none_new) ∙ e));
       room = λ early. sound.copies.room (inl refl);

@@ -14,8 +14,8 @@ use Rattle.barriers.specs.Barriers.{forward_value}
 use Rattle.collector.specs.References.{ValuePasses}
 use Rattle.collector.specs.Phases.{no_progress}
 use Rattle.collector.specs.Soundness.{IsSoundHeap}
-use Rattle.collector.specs.Flips.{flip_step, flipped_on}
-use Rattle.collector.specs.Holding.{AnyLive, NewOnly, passes, static_may_hold, static_hold_of}
+use Rattle.collector.specs.Flips.{flip_step, next_flip_step}
+use Rattle.collector.specs.Holds.{AnyLive, NewOnly, passes, static_may_hold, static_hold_of}
 use Rattle.collector.specs.declared.progress.Progress.{Progress}
 use Rattle.collector.proofs.Addresses.GrowingBlocks.{TestsStay, passes_stays, value_weakens}
 use Rattle.collector.proofs.PhaseChanges.FlipPhases.{forwarded_is_new, in_heap_flip}
@@ -87,12 +87,12 @@ module _ (tree : Tree) (has_round : Bool) (words : ℕ) (p : Progress) (o : Obje
   passes_by (Some v) is = step_passes v is
 
   -- each static field holds what it may after a step
-  pub flipped_statics_pass : StaticsPass HeapFlip m (flipped_on p o statics).0 (flipped_on p o statics).1
+  pub flipped_statics_pass : StaticsPass HeapFlip m (next_flip_step p o statics).0 (next_flip_step p o statics).1
   flipped_statics_pass = passes_by (slice_get statics p.flipped_statics) refl
 
   -- and the heap is sound
-  pub flipped_sound : IsSoundHeap tree HeapFlip has_round words (flipped_on p o statics).0 m
-  flipped_sound = in_heap_flip tree has_round words p m (flipped_on p o statics).0 sound
+  pub flipped_sound : IsSoundHeap tree HeapFlip has_round words (next_flip_step p o statics).0 m
+  flipped_sound = in_heap_flip tree has_round words p m (next_flip_step p o statics).0 sound
 
   -- ---- the last one
 
@@ -102,7 +102,7 @@ module _ (tree : Tree) (has_round : Bool) (words : ℕ) (p : Progress) (o : Obje
   none_left_by (Some v) is e = absurd cc
 
   -- where none is left to flip, each static field holds what is new, and may hold that while ThreadFlip is posted
-  pub all_flipped : (flipped_on p o statics).2 ≡ false → (q : Progress) → StaticsPass ThreadFlip m q statics
+  pub all_flipped : (next_flip_step p o statics).2 ≡ false → (q : Progress) → StaticsPass ThreadFlip m q statics
   all_flipped e q number v there =
       let none = none_left_by (slice_get statics p.flipped_statics) refl e in
       let inside = slice_get_within statics number v there in

@@ -13,7 +13,7 @@ use Rattle.object_memory.specs.Objects.{Objects, with_literal_monitor}
 use Rattle.object_memory.specs.Values.{value_word}
 use Rattle.barriers.specs.Barriers.{forward_value, reaches_both, stored_int, stored_monitor, stored_static, stored_value, with_both_monitors, with_marked}
 use Rattle.collector.specs.Soundness.{IsListed}
-use Rattle.collector.specs.Holding.{HasNotBegun}
+use Rattle.collector.specs.Holds.{HasNotBegun}
 use Rattle.collector.specs.declared.progress.Progress.{Progress}
 use Rattle.collector.proofs.Addresses.TagChanges.{AreAlike, KeepsTags, alike_itself, change_alike, copies_alike, monitor_keeps_tags, slot_keeps_tags}
 use Rattle.collector.proofs.HeapStores.ReachedCopies.{changed_by}

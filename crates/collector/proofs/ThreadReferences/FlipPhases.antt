@@ -7,7 +7,7 @@ use Rattle.object_memory.specs.declared.addresses.Addr.{Addr}
 use Rattle.object_memory.specs.Spaces.{Spaces, close_cycle}
 use Rattle.phase_handshake.specs.Handshakes.{Handshakes, posted_next}
 use Rattle.phase_handshake.specs.declared.posts.Seat.{Seat}
-use Rattle.collector.specs.Holding.{may_hold}
+use Rattle.collector.specs.Holds.{may_hold}
 use Rattle.collector.proofs.PhaseChanges.FlipPhases.{is_flip}
 
 module _ (has_round : Bool) (seats : List (Option Seat)) (answered : Bool) (m : Spaces) (a : Addr) where

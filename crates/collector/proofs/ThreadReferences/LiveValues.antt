@@ -13,12 +13,12 @@ use Rattle.object_memory.specs.Cells.{Cell, cell_in, literal_number}
 use Rattle.object_memory.specs.Spaces.{Spaces, cell_at, first_of, is_old, is_there}
 use Rattle.object_memory.specs.Objects.{Objects, object_cell}
 use Rattle.object_memory.specs.Values.{value_word}
-use Rattle.barriers.specs.Barriers.{is_value_there}
+use Rattle.barriers.specs.Barriers.{is_value_in_heap}
 use Rattle.phase_handshake.specs.Handshakes.{Handshakes}
 use Rattle.phase_handshake.specs.declared.posts.Seat.{Seat}
 use Rattle.collector.specs.References.{Test, ValuePasses, holds_reference, is_permanent, reference_in}
 use Rattle.collector.specs.Phases.{is_live, is_live_object, is_marked_address, is_marked_old, is_new, is_new_address}
-use Rattle.collector.specs.Holding.{AnyLive, Hold, MarkedOnly, NewOnly, hold_of, is_flipping, is_marking, may_hold, passes}
+use Rattle.collector.specs.Holds.{AnyLive, Hold, MarkedOnly, NewOnly, hold_of, is_flipping, is_marking, may_hold, passes}
 use Rattle.collector.proofs.Addresses.Disjunctions.{false_is_true, either_true, or_second, or_more, or_of_three}
 use Rattle.collector.proofs.Addresses.LiveForwards.{marked_is_some, flipping_has_new, new_is_live}
 use Rattle.collector.proofs.Marks.MarksOfStores.{Grows, passes_then}
@@ -140,6 +140,6 @@ live_is_there posted_phase o a live = elim (either_true (is_permanent a) (is_liv
 ]
 
 -- and so is a value that is live, or an integer
-pub live_value_is_there : (posted_phase : Phase) (o : Objects) (v : Value) → ValuePasses (is_live posted_phase o.spaces) v → is_value_there o v ≡ true
+pub live_value_is_there : (posted_phase : Phase) (o : Objects) (v : Value) → ValuePasses (is_live posted_phase o.spaces) v → is_value_in_heap o v ≡ true
 live_value_is_there posted_phase o (Ref a) live = live_is_there posted_phase o a live
 live_value_is_there posted_phase o _ live = refl

@@ -11,8 +11,8 @@ use Rattle.phase_handshake.specs.Handshakes.{Handshakes, has_answered, posted_ro
 use Rattle.phase_handshake.specs.declared.posts.Seat.{Seat}
 use Rattle.phase_handshake.proofs.Closeness.{passes_at, seat_there}
 use Rattle.collector.specs.Phases.{is_live, is_marked_address, is_new_address}
-use Rattle.collector.specs.Marking.{is_closed}
-use Rattle.collector.specs.Holding.{AnyLive, Hold, MarkedOnly, NewOnly, hold_of, is_flipping, is_marking, may_hold, passes, static_hold_of, static_may_hold}
+use Rattle.collector.specs.MarkSteps.{is_closed}
+use Rattle.collector.specs.Holds.{AnyLive, Hold, MarkedOnly, NewOnly, hold_of, is_flipping, is_marking, may_hold, passes, static_hold_of, static_may_hold}
 use Rattle.collector.specs.declared.progress.Progress.{Progress}
 use Rattle.collector.proofs.Addresses.Tests.{HoldMeans, hold_means, is_marked_only, is_new_live, marked_is_live, means_marked, may_hold_live, never, static_may_hold_live}
 use Rattle.collector.proofs.Marks.MarkChanges.{AreDarker, AreDarker-same, stays_live, stays_new_address, stays_passing}

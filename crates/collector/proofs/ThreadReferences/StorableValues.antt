@@ -13,11 +13,11 @@ use Rattle.object_memory.specs.Cells.{Cell, cell_in}
 use Rattle.object_memory.specs.Spaces.{AreSpaces, Spaces, is_old, other_of}
 use Rattle.object_memory.specs.Objects.{Objects, object_cell, object_slots}
 use Rattle.object_memory.proofs.TwoSpaces.TwoBlocks.{apart, either, new_is_cell, not_old, old_is_cell}
-use Rattle.barriers.specs.Barriers.{is_monitor_storable, is_other_alike, is_other_there, is_static_storable, is_value_there, is_word_storable, reaches_both}
+use Rattle.barriers.specs.Barriers.{is_monitor_storable, other_has_slot, is_other_in_heap, is_static_storable, is_value_in_heap, is_word_storable, reaches_both}
 use Rattle.collector.specs.References.{ValuePasses}
 use Rattle.collector.specs.Phases.{is_live, is_of_cycle}
 use Rattle.collector.specs.Soundness.{IsSoundHeap}
-use Rattle.collector.specs.Holding.{passes}
+use Rattle.collector.specs.Holds.{passes}
 use Rattle.collector.specs.declared.progress.Progress.{Progress}
 use Rattle.collector.proofs.HeapStores.ReachedCopies.{IsBeside}
 use Rattle.collector.proofs.Marks.MarksOfStores.{value_weakens}
@@ -71,11 +71,11 @@ module _ (tree : Tree) (posted_phase : Phase) (has_round : Bool) (words : ℕ) (
           )
 
   -- it has each slot of the object
-  pub other_is_alike : (a : Addr) (c : Cell) (slot : ℕ) → object_cell o a ≡ Some c → slot < length c.slots → is_other_alike o a slot ≡ true
+  pub other_is_alike : (a : Addr) (c : Cell) (slot : ℕ) → object_cell o a ≡ Some c → slot < length c.slots → other_has_slot o a slot ≡ true
   other_is_alike a c slot lies inside = by_other c.other refl
     where
-      by_other : (r : Option Addr) → c.other ≡ r → is_other_alike o a slot ≡ true
-      by_other None bare = rw (lies, bare) refl
+      by_other : (r : Option Addr) → c.other ≡ r → other_has_slot o a slot ≡ true
+      by_other None no_copy = rw (lies, no_copy) refl
       by_other (Some b) other =
           let u = other_lies a c lies b other in
           let count = u.1.count in
@@ -83,16 +83,16 @@ module _ (tree : Tree) (posted_phase : Phase) (has_round : Bool) (words : ℕ) (
           ap (λ r. option_map_or (λ (x : Addr). nat_lt slot (length (object_slots o x))) r true) (ap other_of lies ∙ other) ∙ rw u.1.lies test
 
   -- where an object has another copy, that one lies there
-  pub other_is_there : (a : Addr) → is_other_there o a ≡ true
+  pub other_is_there : (a : Addr) → is_other_in_heap o a ≡ true
   other_is_there a = by_cell (object_cell o a) refl
     where
-      by_other : (c : Cell) → object_cell o a ≡ Some c → (r : Option Addr) → c.other ≡ r → is_other_there o a ≡ true
-      by_other c lies None bare = rw (lies, bare) refl
+      by_other : (c : Cell) → object_cell o a ≡ Some c → (r : Option Addr) → c.other ≡ r → is_other_in_heap o a ≡ true
+      by_other c lies None no_copy = rw (lies, no_copy) refl
       by_other c lies (Some b) other =
           let u = other_lies a c lies b other in
           ap (λ r. option_map_or (λ (x : Addr). is_some (object_cell o x)) r true) (ap other_of lies ∙ other) ∙ ap is_some u.1.lies
 
-      by_cell : (r : Option Cell) → object_cell o a ≡ r → is_other_there o a ≡ true
+      by_cell : (r : Option Cell) → object_cell o a ≡ r → is_other_in_heap o a ≡ true
       by_cell None none = rw none refl
       by_cell (Some c) lies = by_other c lies c.other refl
 
@@ -107,7 +107,7 @@ both_true : (x y : Bool) → x ≡ true → y ≡ true → (x && y) ≡ true
 both_true x y e e' = rw (e, e') refl
 
 module _ (tree : Tree) (posted_phase : Phase) (has_round : Bool) (words : ℕ) (p : Progress) (o : Objects) where
-  held_is_there : (own : Phase) (v : Value) → ValuePasses (passes (held_by own posted_phase) posted_phase o.spaces) v → is_value_there o v ≡ true
+  held_is_there : (own : Phase) (v : Value) → ValuePasses (passes (held_by own posted_phase) posted_phase o.spaces) v → is_value_in_heap o v ≡ true
   held_is_there own v held = live_value_is_there posted_phase o v (value_weakens (passes (held_by own posted_phase) posted_phase o.spaces) (is_live posted_phase o.spaces) (held_is_live own posted_phase o.spaces) v held)
 
   module _ (a : Addr) (c : Cell) (slot : ℕ) (inside : slot < length c.slots) where
@@ -115,7 +115,7 @@ module _ (tree : Tree) (posted_phase : Phase) (has_round : Bool) (words : ℕ) (
     pub word_is_storable : (own : Phase) → IsBesideHeap tree own posted_phase has_round words p o → IsHeldObject own posted_phase o a c → is_word_storable own o a slot ≡ true
     word_is_storable own thread object = by_both (reaches_both own)
       where
-        by_both : (t : Bool) → (if t then is_other_alike o a slot else true) ≡ true
+        by_both : (t : Bool) → (if t then other_has_slot o a slot else true) ≡ true
         by_both true = other_is_alike tree posted_phase has_round words p o thread.sound a c slot object.lies inside
         by_both false = refl
 
@@ -123,13 +123,13 @@ module _ (tree : Tree) (posted_phase : Phase) (has_round : Bool) (words : ℕ) (
   pub monitor_is_storable : (own : Phase) (a : Addr) → IsSoundHeap tree posted_phase has_round words p o.spaces → is_monitor_storable own o a ≡ true
   monitor_is_storable own a sound = by_both (reaches_both own)
     where
-      by_both : (t : Bool) → (if t then is_other_there o a else true) ≡ true
+      by_both : (t : Bool) → (if t then is_other_in_heap o a else true) ≡ true
       by_both true = other_is_there tree posted_phase has_round words p o sound a
       by_both false = refl
 
   -- a value in a static field
   pub static_is_storable : (own : Phase) (v : Value) → IsBesideHeap tree own posted_phase has_round words p o → ValuePasses (passes (held_by own posted_phase) posted_phase o.spaces) v → is_static_storable own o v ≡ true
-  static_is_storable Mark v thread held = both_true o.spaces.is_open (is_value_there o v) (thread.sound.blocks.held ∙ open_beside posted_phase thread.beside) (held_is_there Mark v held)
+  static_is_storable Mark v thread held = both_true o.spaces.is_open (is_value_in_heap o v) (thread.sound.blocks.held ∙ open_beside posted_phase thread.beside) (held_is_there Mark v held)
   static_is_storable PreFlip v thread held = held_is_there PreFlip v held
   static_is_storable HeapFlip v thread held = held_is_there HeapFlip v held
   static_is_storable _ v thread held = refl

@@ -19,7 +19,7 @@ use Rattle.cil_model.specs.Declarations.{object_name, plain, void_method}
 use Rattle.cil_model.specs.Fields.{FieldKey}
 use Rattle.reference_machine.specs.Values.{ObjectName, Born, Literal, Value, Int32, Int64, Null, Reference}
 use Rattle.reference_machine.specs.States.{Monitor, Free, Held, Contents, Instance as Object_, Array, HeapObject, Frame, Thread, State, object_at, field_value, array_at, monitor_of}
-use Rattle.reference_machine.specs.Effects.{Setting, Effect, Goes, Blocks, Raises, Sticks}
+use Rattle.reference_machine.specs.Effects.{StepContext, Effect, Goes, Blocks, Raises, Sticks}
 use Rattle.reference_machine.specs.Steps.{execute}
 use Rattle.cil_model.specs.Examples.{usual_limits, unlabelled_line}
 use Rattle.definition_tests.proofs.Samples.Programs.{named, of_class, class_with, interface_with, thread_class, code_with, constructor_over, virtual_f, abstract_f}
@@ -131,10 +131,10 @@ farm_state = record {
 
 -- ---- one instruction on operands that were pushed in this order
 
-abbrev pub setting : Setting
+abbrev pub setting : StepContext
 setting = record { tree = farm; limits = record usual_limits { depth = 2 }; thread = 0; is_refused = false }
 
-abbrev pub effect_in : Setting → Instruction → List Value → Effect
+abbrev pub effect_in : StepContext → Instruction → List Value → Effect
 effect_in here i operands = execute here farm_state (record idle_frame { stack = reverse operands }) [] i
 
 -- what the thread does then, with the stack in the order in which it was pushed

@@ -11,13 +11,13 @@ use Rattle.object_memory.specs.Objects.{Objects}
 use Rattle.object_memory.specs.Spaces.{is_there}
 use Rattle.threads_monitors.specs.Frames.{Frame}
 use Rattle.threads_monitors.specs.Roots.{frame_roots, reference_in, values_of}
-use Rattle.simulation.specs.instructions.barriers.Barriers.{is_value_there, with_marked}
-use Rattle.simulation.specs.collector.Conditions.{AreThere}
-use Rattle.simulation.specs.collector.Marking.{with_all_marked}
+use Rattle.simulation.specs.instructions.barriers.Barriers.{is_value_in_heap, with_marked}
+use Rattle.simulation.specs.collector.Conditions.{AreValuesInHeap}
+use Rattle.simulation.specs.collector.MarkSteps.{with_all_marked}
 use Rattle.simulation.specs.collector.Soundness.{IsListed}
-use Rattle.simulation.specs.Collecting.{with_roots_marked}
+use Rattle.simulation.specs.CollectorSteps.{with_roots_marked}
 use Rattle.simulation.proofs.collector.Marks.MarkSteps.{all_kept, open_kept}
-use Rattle.interleaving_core.specs.Acknowledging.{AreAllThere}
+use Rattle.interleaving_core.specs.Acknowledgements.{AreAllThere}
 
 -- ---- lists
 
@@ -49,18 +49,18 @@ listed_at (x ∷ xs) = All-cons (IsListed (x ∷ xs)) x xs (inl refl) (λ k d in
 -- ---- what is there
 
 -- values whose references are
-pub values_there : (o : Objects) (vs : List Value) → AreAllThere o (filter_map reference_in vs) → AreThere o vs
-values_there o [] h = All-nil (λ v. is_value_there o v ≡ true)
-values_there o (Int32 n ∷ vs) h = All-cons (λ v. is_value_there o v ≡ true) (Int32 n) vs refl (values_there o vs h)
-values_there o (Int64 n ∷ vs) h = All-cons (λ v. is_value_there o v ≡ true) (Int64 n) vs refl (values_there o vs h)
-values_there o (Native n ∷ vs) h = All-cons (λ v. is_value_there o v ≡ true) (Native n) vs refl (values_there o vs h)
-values_there o (Ref b ∷ vs) h = All-cons (λ v. is_value_there o v ≡ true) (Ref b) vs (h b (inl refl)) (values_there o vs (λ a listed. h a (inr listed)))
+pub values_there : (o : Objects) (vs : List Value) → AreAllThere o (filter_map reference_in vs) → AreValuesInHeap o vs
+values_there o [] h = All-nil (λ v. is_value_in_heap o v ≡ true)
+values_there o (Int32 n ∷ vs) h = All-cons (λ v. is_value_in_heap o v ≡ true) (Int32 n) vs refl (values_there o vs h)
+values_there o (Int64 n ∷ vs) h = All-cons (λ v. is_value_in_heap o v ≡ true) (Int64 n) vs refl (values_there o vs h)
+values_there o (Native n ∷ vs) h = All-cons (λ v. is_value_in_heap o v ≡ true) (Native n) vs refl (values_there o vs h)
+values_there o (Ref b ∷ vs) h = All-cons (λ v. is_value_in_heap o v ≡ true) (Ref b) vs (h b (inl refl)) (values_there o vs (λ a listed. h a (inr listed)))
 
 -- it stays there while others are marked, and a cycle stays open
 one_kept : (o : Objects) (b a : Addr) → is_there o.spaces a ≡ true → is_there (with_marked o (Ref b)).spaces a ≡ true
 one_kept o b a there =
-    All-head (λ v. is_value_there (with_marked o (Ref b)) v ≡ true) (Ref a) []
-    (all_kept o (Ref b) (Ref a ∷ []) (All-cons (λ v. is_value_there o v ≡ true) (Ref a) [] there (All-nil (λ v. is_value_there o v ≡ true))))
+    All-head (λ v. is_value_in_heap (with_marked o (Ref b)) v ≡ true) (Ref a) []
+    (all_kept o (Ref b) (Ref a ∷ []) (All-cons (λ v. is_value_in_heap o v ≡ true) (Ref a) [] there (All-nil (λ v. is_value_in_heap o v ≡ true))))
 
 pub there_kept : (list : List Addr) (o : Objects) (a : Addr) → is_there o.spaces a ≡ true → is_there (with_roots_marked o list).spaces a ≡ true
 there_kept [] o a there = there

@@ -8,7 +8,7 @@ use Rattle.simulation.specs.Sound.{IsSound}
 use Rattle.simulation.proofs.Representation.NormalContents.{has_seat, sound_is_held}
 use Rattle.simulation.proofs.collector.ThreadReferences.LiveValues.{live_is_there}
 use Rattle.simulation.proofs.collector.Addresses.Tests.{may_hold_live}
-use Rattle.interleaving_core.specs.Acknowledging.{AreAllThere}
+use Rattle.interleaving_core.specs.Acknowledgements.{AreAllThere}
 
 pub held_there : (c : MachineState) (t : ℕ) → IsSound c → (left : ℕ) (m : Frames) → slice_get c.threads t ≡ Some (record { thread_status = Live m; steps_left = left }) → AreAllThere c.objects (roots m)
 held_there c t sound left m there a listed =

@@ -40,7 +40,7 @@ use Rattle.threads_monitors.specs.Frames.{zero_value}
 use Rattle.threads_monitors.specs.declared.threads.Thread.{Thread}
 use Rattle.simulation.specs.interpreter.Calls.{chosen_method, chosen_at, chosen_by, class_at}
 use Rattle.simulation.proofs.interpreter.MethodsToRun.{there_is}
-use Rattle.simulation.specs.loaded_program.Loaded.{target_in}
+use Rattle.simulation.specs.loaded_program.LoadedPrograms.{target_in}
 use Rattle.simulation.proofs.loaded_program.OperandLaws.{then_some}
 use Rattle.simulation.specs.Transitions.{machine_state_at, initial_machine_state, run_member, thread_at, thread_for}
 use Rattle.interleaving_core.specs.Statics.{declared_fields, zeros_of}

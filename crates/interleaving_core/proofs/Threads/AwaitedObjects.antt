@@ -26,7 +26,7 @@ use Rattle.simulation.proofs.reference_machine.Programs.ActingMembers.{acting_is
 use Rattle.name_tables.specs.declared.ids.MethodId.{MethodId}
 use Rattle.name_tables.specs.Numbers.{method_at}
 use Rattle.resolved_code.specs.ById.{class_name}
-use Rattle.resolved_code.specs.Resolved.{IsMethod, IsOperation, call, call_virtual}
+use Rattle.resolved_code.specs.ResolvedPrograms.{IsMethod, IsOperation, call, call_virtual}
 use Rattle.resolved_code.specs.declared.operations.Operation.{Operation}
 use Rattle.resolved_code.specs.declared.operations.Operation.TheVariants as Resolved
 use Rattle.object_memory.specs.declared.addresses.Addr.{Addr}
@@ -43,14 +43,14 @@ use Rattle.threads_monitors.specs.Monitors.{with_entry}
 use Rattle.threads_monitors.specs.declared.effects.Effect.TheVariants.{Raises}
 use Rattle.simulation.specs.instructions.Calls.{call_transition}
 use Rattle.simulation.specs.instructions.Frames.{when_some}
-use Rattle.simulation.specs.instructions.ObjectTransitions.{ObjectTransition, beside}
-use Rattle.simulation.specs.instructions.BuiltInTransitions.{carry, is_countable, reference_from}
-use Rattle.simulation.specs.interpreter.Calls.{CallTransition, act_transition, beside_console, call_answer, called_as, chosen_method, chosen_by, class_at, receiver, run_transition, top_reference, run_on}
+use Rattle.simulation.specs.instructions.ObjectTransitions.{ObjectTransition, with_objects}
+use Rattle.simulation.specs.instructions.BuiltInTransitions.{pop_if_continues, is_countable, reference_from}
+use Rattle.simulation.specs.interpreter.Calls.{CallTransition, act_transition, with_console, call_answer, called_method, chosen_method, chosen_by, class_at, receiver, run_transition, top_reference, run_on}
 use Rattle.simulation.specs.interpreter.Instructions.{Answer, HasSmallConstant, IsAt, IsDone, MachineTransition, answer_of, line_at, of_calls, operation_transition}
 use Rattle.simulation.proofs.interpreter.LinkedTransitions.{call_does, virtual_does}
 use Rattle.simulation.specs.interpreter.declared.outcomes.InstructionOutcome.TheVariants.{OwnEffect, Joins}
 use Rattle.simulation.specs.MachineStates.{MachineState, mutator_of}
-use Rattle.simulation.specs.Ready.{IsAnswerable, IsReady}
+use Rattle.simulation.specs.ReadySteps.{IsAnswerable, IsReady}
 use Rattle.interleaving_core.specs.Waits.{HasObject, action_at, called_member}
 
 -- ---- what an instruction calls
@@ -128,7 +128,7 @@ module _ (tree : Tree) (mutator : Mutator) (m : Frames) (o : Objects) (ss : List
   run_is found acts = ap (λ k. option_map_or (λ b. act_transition tree mutator b m o pr) k otherwise) acts
     where
       otherwise : CallTransition
-      otherwise = when_some (number_of tree found) (λ n. beside_console pr (beside o (call_transition (called_as found n) m)))
+      otherwise = when_some (number_of tree found) (λ n. with_console pr (with_objects o (call_transition (called_method found n) m)))
 
   plain_is : (flag : Bool) (r : MethodReference) (owner : ℕ) (method : MethodId) → IsMethod tree flag r method → called_action tree (Named.Call flag r) ≡ Some a →
       operation_transition tree mutator (Resolved.Call flag owner method) m o ss pr ≡ acted
@@ -203,14 +203,14 @@ module _ (c : MachineState) (t left : ℕ) (m : Frames) (ready : IsReady c t m) 
         by_stack m.running.stack top (subst IsSome transition.1 (ready.there op at transition.0))
       where
         goes : Addr → Frames → ObjectTransition
-        goes a n = if (a.number == 0) || (is_countable (monitor_at c.objects a) && is_monitor_storable (mutator_of c t).phase c.objects a) then carry m n (with_entry (mutator_of c t) c.objects a) else None
+        goes a n = if (a.number == 0) || (is_countable (monitor_at c.objects a) && is_monitor_storable (mutator_of c t).phase c.objects a) then pop_if_continues m n (with_entry (mutator_of c t) c.objects a) else None
 
-        by_monitor : (y : Addr) (n : Frames) → y ≡ x → (b d : Bool) → b ≡ false → (w : Option Monitor) → IsSome (of_calls c.objects c.statics c.printed (beside_console c.printed (if b || (is_countable w && d) then carry m n (with_entry (mutator_of c t) c.objects y) else None))) → IsSome w
+        by_monitor : (y : Addr) (n : Frames) → y ≡ x → (b d : Bool) → b ≡ false → (w : Option Monitor) → IsSome (of_calls c.objects c.statics c.printed (with_console c.printed (if b || (is_countable w && d) then pop_if_continues m n (with_entry (mutator_of c t) c.objects y) else None))) → IsSome w
         by_monitor y n same true d e w there = not_both true e refl
         by_monitor y n same false d e None there = absurd cc
         by_monitor y n same false d e (Some w) there = refl
 
-        by_stack : (stack : List Value) → top_reference stack ≡ Some x → IsSome (of_calls c.objects c.statics c.printed (beside_console c.printed (reference_from stack m goes))) → IsSome (monitor_at c.objects x)
+        by_stack : (stack : List Value) → top_reference stack ≡ Some x → IsSome (of_calls c.objects c.statics c.printed (with_console c.printed (reference_from stack m goes))) → IsSome (monitor_at c.objects x)
         by_stack [] e there = none_is_some x e
         by_stack (Int32 z ∷ rest) e there = none_is_some x e
         by_stack (Int64 z ∷ rest) e there = none_is_some x e

@@ -21,7 +21,7 @@ use Rattle.phase_handshake.specs.Handshakes.{Handshakes, acknowledge_phase, leav
 use Rattle.simulation.specs.interpreter.declared.outcomes.InstructionOutcome.{InstructionOutcome}
 use Rattle.simulation.specs.Budgets.{KeepsBudgets, made_step, steps_left_of, steps_made}
 use Rattle.simulation.specs.MachineStates.{MachineState}
-use Rattle.simulation.specs.Collecting.{acknowledgement, collect, flips_frames, objects_after, status_flipped, thread_flipped, with_acknowledgement, with_flipped}
+use Rattle.simulation.specs.CollectorSteps.{acknowledgement, collect, flips_frames, objects_after, status_flipped, thread_flipped, with_acknowledgement, with_flipped}
 use Rattle.simulation.specs.Transitions.{IsStatusTransition, IsThreadTransition, IsTransition, count_step, finish_step, left_by, live_thread, seats_after}
 use Rattle.simulation.proofs.CollectorEvents.UnchangedState.{collected_keeps}
 use Rattle.simulation.proofs.Threads.StepEffects.{HasBegun, finished_by}

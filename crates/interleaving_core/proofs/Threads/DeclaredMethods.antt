@@ -12,7 +12,7 @@ use Rattle.cil_model.specs.Legality.{IsLegal}
 use Rattle.name_tables.specs.Numbers.{declarations, method_at}
 use Rattle.name_tables.proofs.NumberLaws.{declared_at_number}
 use Rattle.resolved_code.proofs.Numbers.Classes.{number_of_index}
-use Rattle.simulation.specs.loaded_program.Prepared.{local_kinds}
+use Rattle.simulation.specs.loaded_program.LocalKinds.{local_kinds}
 use Rattle.simulation.proofs.ProgramSizes.Methods.{locals_few}
 use Rattle.simulation.proofs.Memory.InitialValues.{locals_low}
 use Rattle.cil_model.proofs.Lists.{none_is_some}

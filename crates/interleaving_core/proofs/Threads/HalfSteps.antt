@@ -22,8 +22,8 @@ use Rattle.simulation.specs.interpreter.declared.outcomes.InstructionOutcome.{In
 use Rattle.simulation.specs.interpreter.declared.outcomes.InstructionOutcome.TheVariants.{Starts}
 use Rattle.simulation.specs.MachineStates.{MachineState, mutator_of}
 use Rattle.simulation.specs.Transitions.{IsStatusTransition, IsThreadTransition, IsTransition, finish, finish_step, left_by, live_thread, start_thread, thread_for}
-use Rattle.simulation.specs.Ready.{CanFinish, IsAnswerable}
-use Rattle.interleaving_core.specs.Finishing.{IsInstructed}
+use Rattle.simulation.specs.ReadySteps.{CanFinish, IsAnswerable}
+use Rattle.interleaving_core.specs.FinishedSteps.{IsInstructed}
 use Rattle.interleaving_core.proofs.Threads.StartRequests.{start_changes_nothing}
 use Rattle.cil_model.proofs.Lists.{none_is_some, get_before, set_is_there, set_itself}
 

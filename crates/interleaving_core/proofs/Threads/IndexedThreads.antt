@@ -20,12 +20,12 @@ use Rattle.threads_monitors.specs.declared.threads.ThreadStatus.TheVariants.{Liv
 use Rattle.threads_monitors.specs.declared.threads.Thread.{Thread}
 use Rattle.resolved_code.specs.declared.operations.Operation.{Operation}
 use Rattle.threads_monitors.specs.declared.mutators.Mutator.{Mutator}
-use Rattle.simulation.specs.Ready.{IsReady}
+use Rattle.simulation.specs.ReadySteps.{IsReady}
 use Rattle.simulation.specs.interpreter.Instructions.{IsDone, answer_of, HasSmallConstant, IsAt, operation_transition}
 use Rattle.simulation.specs.interpreter.declared.outcomes.InstructionOutcome.{InstructionOutcome}
 use Rattle.simulation.specs.MachineStates.{MachineState, mutator_of}
 use Rattle.simulation.specs.Transitions.{after_request, answer_step, count_step, live_thread, start_thread, thread_for, seats_after}
-use Rattle.interleaving_core.specs.Finishing.{IsInstructed}
+use Rattle.interleaving_core.specs.FinishedSteps.{IsInstructed}
 use Rattle.interleaving_core.proofs.Threads.HalfSteps.{live_there, thread_is}
 
 -- ---- what was reached
@@ -63,22 +63,22 @@ module _ (c : MachineState) (t i : ℕ) (same : i ≡ t) (thread : Thread) (read
     is_thread : thread ≡ live_thread left m
     is_thread = reached c.threads t i same thread reads (live_thread left m) there
 
-    placed : (x : Thread × Report) → ◌≡◌ {A = Thread × Report} (new, report) x →
+    stored_at_index : (x : Thread × Report) → ◌≡◌ {A = Thread × Report} (new, report) x →
         ◌≡◌ {A = MachineState × Report} (record c { threads = slice_set c.threads t x.0; posts = seats_after c.posts t x.1 }, x.1) (record c { threads = slice_set c.threads i new; posts = seats_after c.posts t report }, report)
-    placed x h =
+    stored_at_index x h =
         let by_index : ℕ → MachineState × Report = λ k. (record c { threads = slice_set c.threads k new; posts = seats_after c.posts t report }, report) in
         let by_thread : Thread × Report → MachineState × Report = λ y. (record c { threads = slice_set c.threads t y.0; posts = seats_after c.posts t y.1 }, y.1) in
         sym (ap by_index same ∙ ap by_thread h)
 
     -- once its step is counted
     pub counted_is : (effect : Effect) → ◌≡◌ {A = Thread × Report} (new, report) (charge effect thread) → count_step c t left effect m ≡ (record c { threads = slice_set c.threads i new; posts = seats_after c.posts t report }, report)
-    counted_is effect h = placed (charge effect (live_thread left m)) (h ∙ ap (charge effect) is_thread)
+    counted_is effect h = stored_at_index (charge effect (live_thread left m)) (h ∙ ap (charge effect) is_thread)
 
     -- and once what it asked for was answered
     pub answered_is : (effect : Effect) → ((n : Frames) → thread.thread_status ≡ Live n → ◌≡◌ {A = Thread × Report} (new, report) (charge effect (record thread { thread_status = Live (after_request effect n) })))
         → answer_step c t left m effect ≡ (record c { threads = slice_set c.threads i new; posts = seats_after c.posts t report }, report)
     answered_is effect h =
-        placed (charge effect (live_thread left (after_request effect m)))
+        stored_at_index (charge effect (live_thread left (after_request effect m)))
         (h m (ap (λ (x : Thread). x.thread_status) is_thread) ∙ ap (λ (x : Thread). charge effect (record x { thread_status = Live (after_request effect m) })) is_thread)
 
   -- once its instruction is done

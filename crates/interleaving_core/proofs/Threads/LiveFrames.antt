@@ -12,7 +12,7 @@ use Rattle.threads_monitors.specs.Frames.{Frame, Frames, with_running}
 use Rattle.threads_monitors.specs.Threads.{is_live}
 use Rattle.threads_monitors.specs.declared.threads.Thread.{Thread}
 use Rattle.simulation.specs.interpreter.Local.{AreLocalSteps, frames_over}
-use Rattle.simulation.specs.Lending.{RunsFrame, with_live}
+use Rattle.simulation.specs.LentFrames.{RunsFrame, with_live}
 use Rattle.simulation.specs.MachineStates.{MachineState, frame_room}
 use Rattle.simulation.specs.Refines.{IsThread, Represents, StatusRefines}
 use Rattle.simulation.specs.Transitions.{live_thread}

@@ -41,15 +41,15 @@ use Rattle.simulation.specs.loaded_program.MethodNumbers.{number_of}
 use Rattle.simulation.specs.instructions.BuiltInTransitions.{line_of, print_bytes}
 use Rattle.simulation.specs.instructions.Calls.{call_transition}
 use Rattle.simulation.specs.instructions.Frames.{Transition, when_some, onward, top_of}
-use Rattle.simulation.specs.instructions.ObjectTransitions.{ObjectTransition, StaticTransition, beside}
-use Rattle.simulation.specs.interpreter.Calls.{CallTransition, act_transition, beside_console, call_answer, called_as, chosen_method, chosen_by, class_at, receiver, run_transition, top_reference, run_on}
+use Rattle.simulation.specs.instructions.ObjectTransitions.{ObjectTransition, StaticTransition, with_objects}
+use Rattle.simulation.specs.interpreter.Calls.{CallTransition, act_transition, with_console, call_answer, called_method, chosen_method, chosen_by, class_at, receiver, run_transition, top_reference, run_on}
 use Rattle.simulation.specs.loaded_program.declared.instructions.LinkedInstruction.TheVariants as Linked
 use Rattle.simulation.specs.interpreter.Instructions.{Answer, IsDone, answer_of, of_calls, of_frames, of_objects, of_statics, operation_transition, linked_transition, MachineTransition}
 use Rattle.object_memory.specs.Cells.{literal}
 use Rattle.object_memory.specs.declared.addresses.TheConstants.{FIRST_LITERAL}
 use Rattle.simulation.specs.loaded_program.declared.instructions.LinkedInstruction.{LinkedInstruction}
 use Rattle.simulation.specs.loaded_program.Links.{number_at}
-use Rattle.simulation.specs.loaded_program.Operands.{array_held, class_in, held_at, slot_at, slots_at, static_at}
+use Rattle.simulation.specs.loaded_program.Operands.{linked_array, class_in, field_kind_at, slot_at, slots_at, static_at}
 use Rattle.simulation.proofs.interpreter.LinkedTransitions.{call_does, virtual_does}
 use Rattle.simulation.specs.interpreter.declared.outcomes.InstructionOutcome.{InstructionOutcome}
 use Rattle.simulation.specs.interpreter.declared.outcomes.InstructionOutcome.TheVariants.{OwnEffect, Starts, Joins}
@@ -111,7 +111,7 @@ module _ (tree : Tree) (mutator : Mutator) (m : Frames) (o : Objects) (ss : List
   statics_keep None e = none_is_some answer (sym e)
   statics_keep (Some t) e = ap (λ (x : Answer). x.printed) (same_Some answer (answer_of t.0 t.1.0 t.1.1 c (OwnEffect t.2)) e)
 
-  console_keeps : (transition : ObjectTransition) → Some answer ≡ of_calls o ss c (beside_console c transition) → answer.printed ≡ c
+  console_keeps : (transition : ObjectTransition) → Some answer ≡ of_calls o ss c (with_console c transition) → answer.printed ≡ c
   console_keeps None e = none_is_some answer (sym e)
   console_keeps (Some t) e = ap (λ (x : Answer). x.printed) (same_Some answer (answer_of t.0 t.1 ss c (OwnEffect t.2)) e)
 
@@ -139,11 +139,11 @@ module _ (tree : Tree) (mutator : Mutator) (m : Frames) (o : Objects) (ss : List
   quiet : (op : Operation) → called_member op ≡ None → Some answer ≡ operation_transition tree mutator op m o ss c → answer.printed ≡ c
   quiet (LoadString n) h e = string_keeps (literal n) (nat_lt n FIRST_LITERAL) e
   quiet (LoadField owner field) h e =
-      then_keep (λ slot. option_map (λ kind. Linked.LoadField slot kind) (held_at tree field)) (λ slot. mapped_keep (λ kind. Linked.LoadField slot kind) (λ kind. objects_keep _) (held_at tree field)) (slot_at tree field) e
+      then_keep (λ slot. option_map (λ kind. Linked.LoadField slot kind) (field_kind_at tree field)) (λ slot. mapped_keep (λ kind. Linked.LoadField slot kind) (λ kind. objects_keep _) (field_kind_at tree field)) (slot_at tree field) e
   quiet (StoreField owner field) h e = mapped_keep (λ slot. Linked.StoreField slot) (λ slot. objects_keep _) (slot_at tree field) e
   quiet (LoadStaticField field) h e = mapped_keep (λ number. Linked.LoadStaticField number) (λ number. frames_keep _) (static_at tree field) e
   quiet (StoreStaticField field) h e = mapped_keep (λ number. Linked.StoreStaticField number) (λ number. statics_keep _) (static_at tree field) e
-  quiet (NewArray t) h e = mapped_keep (λ element. Linked.NewArray element) (λ element. objects_keep _) (array_held t) e
+  quiet (NewArray t) h e = mapped_keep (λ element. Linked.NewArray element) (λ element. objects_keep _) (linked_array t) e
   quiet LoadLength h e = objects_keep _ e
   quiet (LoadElement kind) h e = objects_keep _ e
   quiet (StoreElement kind) h e = objects_keep _ e
@@ -173,9 +173,9 @@ module _ (tree : Tree) (mutator : Mutator) (m : Frames) (o : Objects) (ss : List
       by_line None e' = none_is_some answer (sym e')
       by_line (Some line) e' = line_within line (by_transition line (onward (with_stack m rest)) e')
 
-  constructs : (stack : List Value) → Some answer ≡ of_calls o ss c (top_of stack m (λ v n. beside_console c (beside o (onward n)))) → answer.printed ≡ c
+  constructs : (stack : List Value) → Some answer ≡ of_calls o ss c (top_of stack m (λ v n. with_console c (with_objects o (onward n)))) → answer.printed ≡ c
   constructs [] e = none_is_some answer (sym e)
-  constructs (v ∷ rest) e = console_keeps (beside o (onward (with_stack m rest))) e
+  constructs (v ∷ rest) e = console_keeps (with_objects o (onward (with_stack m rest))) e
 
   acts : (a : Action) → Some answer ≡ of_calls o ss c (act_transition tree mutator a m o c) → Within (print_by tree a m.running.stack)
   acts Construct e = same_within (constructs m.running.stack e) []
@@ -190,12 +190,12 @@ module _ (tree : Tree) (mutator : Mutator) (m : Frames) (o : Objects) (ss : List
   print_of k = option_map_or (λ a. print_by tree a m.running.stack) k []
 
   -- a method that runs
-  runs : (found : ClassName × Method) (k : Option Action) → Some answer ≡ of_calls o ss c (option_map_or (λ a. act_transition tree mutator a m o c) k (when_some (number_of tree found) (λ n. beside_console c (beside o (call_transition (called_as found n) m))))) → Within (print_of k)
+  runs : (found : ClassName × Method) (k : Option Action) → Some answer ≡ of_calls o ss c (option_map_or (λ a. act_transition tree mutator a m o c) k (when_some (number_of tree found) (λ n. with_console c (with_objects o (call_transition (called_method found n) m))))) → Within (print_of k)
   runs found None e = by_number (number_of tree found) e
     where
-      by_number : (n : Option ℕ) → Some answer ≡ of_calls o ss c (when_some n (λ n. beside_console c (beside o (call_transition (called_as found n) m)))) → Within []
+      by_number : (n : Option ℕ) → Some answer ≡ of_calls o ss c (when_some n (λ n. with_console c (with_objects o (call_transition (called_method found n) m)))) → Within []
       by_number None e' = none_is_some answer (sym e')
-      by_number (Some n) e' = same_within (console_keeps (beside o (call_transition (called_as found n) m)) e') []
+      by_number (Some n) e' = same_within (console_keeps (with_objects o (call_transition (called_method found n) m)) e') []
   runs found (Some a) e = acts a e
 
   -- call

@@ -19,8 +19,8 @@ use Rattle.simulation.specs.interpreter.declared.outcomes.InstructionOutcome.{In
 use Rattle.simulation.specs.interpreter.declared.outcomes.InstructionOutcome.TheVariants.{OwnEffect, Starts, Joins}
 use Rattle.simulation.specs.MachineStates.{MachineState, mutator_of}
 use Rattle.simulation.specs.Transitions.{IsThreadTransition, IsTransition, TakesMemory, after_request, count_step, finish_step, left_by, live_thread, start_thread, thread_for, seat_thread}
-use Rattle.simulation.specs.Ready.{IsAnswerable}
-use Rattle.interleaving_core.specs.Finishing.{IsInstructed}
+use Rattle.simulation.specs.ReadySteps.{IsAnswerable}
+use Rattle.interleaving_core.specs.FinishedSteps.{IsInstructed}
 use Rattle.simulation.proofs.Threads.StepEffects.{finished_printed}
 
 -- what holds anyway holds of an error

@@ -12,7 +12,7 @@ use Rattle.threads_monitors.specs.declared.effects.Effect.{Effect}
 use Rattle.threads_monitors.specs.declared.threads.Thread.{Thread}
 use Rattle.simulation.specs.interpreter.declared.outcomes.InstructionOutcome.{InstructionOutcome}
 use Rattle.simulation.specs.interpreter.declared.outcomes.InstructionOutcome.TheVariants.{Starts, Joins}
-use Rattle.simulation.specs.Ready.{CanFinish}
+use Rattle.simulation.specs.ReadySteps.{CanFinish}
 use Rattle.simulation.specs.MachineStates.{MachineState, mutator_of}
 use Rattle.simulation.specs.Transitions.{answer_step, finish, live_thread, start_thread, seat_thread}
 use Rattle.interleaving_core.proofs.Threads.HalfSteps.{live_by, live_there, started_keeps}

@@ -18,14 +18,14 @@ use Rattle.threads_monitors.specs.declared.mutators.Mutator.{Mutator}
 use Rattle.threads_monitors.specs.declared.effects.Effect.{Effect}
 use Rattle.threads_monitors.specs.declared.effects.Effect.TheVariants.{Raises}
 use Rattle.simulation.specs.instructions.Frames.{Transition, when_some, onward, top_of}
-use Rattle.simulation.specs.instructions.ObjectTransitions.{ObjectTransition, beside, StaticTransition}
+use Rattle.simulation.specs.instructions.ObjectTransitions.{ObjectTransition, with_objects, StaticTransition}
 use Rattle.simulation.specs.instructions.Calls.{call_transition}
 use Rattle.simulation.specs.instructions.BuiltInTransitions.{enter_transition, exit_transition, write_transition}
 use Rattle.simulation.specs.loaded_program.declared.instructions.LinkedInstruction.TheVariants as Linked
 use Rattle.simulation.specs.interpreter.Instructions.{IsDone, MachineTransition, of_frames, of_objects, of_statics, of_calls, Answer, answer_of, linked_transition, link_of}
 use Rattle.simulation.specs.loaded_program.AllMethods.{all_methods}
 use Rattle.simulation.specs.loaded_program.declared.instructions.LinkedInstruction.{LinkedInstruction}
-use Rattle.simulation.specs.interpreter.Calls.{CallTransition, act_transition, beside_console, called_as, receiver, run_transition, top_reference, CallAnswer, call_answer, call_by_id, chosen_method, run_on, virtual_by_id, virtual_transition}
+use Rattle.simulation.specs.interpreter.Calls.{CallTransition, act_transition, with_console, called_method, receiver, run_transition, top_reference, CallAnswer, call_answer, call_by_id, chosen_method, run_on, virtual_by_id, virtual_transition}
 use Rattle.simulation.specs.interpreter.declared.outcomes.InstructionOutcome.{InstructionOutcome}
 use Rattle.simulation.specs.interpreter.declared.outcomes.InstructionOutcome.TheVariants.{OwnEffect, Starts, Joins}
 use Rattle.cil_model.proofs.Lists.{none_is_some}
@@ -85,7 +85,7 @@ module _ (m : Frames) (o : Objects) (statics : List Value) (printed : List ℕ) 
   none_keeps : KeepsCall None
   none_keeps t object is starts = none_is_some t (sym is)
 
-  console_keeps : (transition : ObjectTransition) → KeepsCall (beside_console printed transition)
+  console_keeps : (transition : ObjectTransition) → KeepsCall (with_console printed transition)
   console_keeps None = none_keeps
   console_keeps (Some t) = effect_keeps t.0 t.1 printed t.2
 
@@ -107,7 +107,7 @@ module _ (m : Frames) (o : Objects) (statics : List Value) (printed : List ℕ) 
   join_keeps None t object is starts = none_is_some t (sym is)
   join_keeps (Some a) t object is starts = joins_not a object (sym (ap (λ (x : CallAnswer). x.outcome) (same_Some t (call_answer m o printed (Joins a)) is)) ∙ starts)
 
-  construct_keeps : (stack : List Value) → KeepsCall (top_of stack m (λ v n. beside_console printed (beside o (onward n))))
+  construct_keeps : (stack : List Value) → KeepsCall (top_of stack m (λ v n. with_console printed (with_objects o (onward n))))
   construct_keeps [] = none_keeps
   construct_keeps (v ∷ rest) = console_keeps _
 
@@ -126,8 +126,8 @@ module _ (m : Frames) (o : Objects) (statics : List Value) (printed : List ℕ) 
 
     run_keeps : (found : ClassName × Method) → KeepsCall (run_transition tree mutator found m o printed)
     run_keeps found =
-        action_keeps (action_of found.0 found.1) (when_some (number_of tree found) (λ n. beside_console printed (beside o (call_transition (called_as found n) m))))
-        (given_keeps (number_of tree found) (λ n. beside_console printed (beside o (call_transition (called_as found n) m))) (λ n. console_keeps (beside o (call_transition (called_as found n) m))))
+        action_keeps (action_of found.0 found.1) (when_some (number_of tree found) (λ n. with_console printed (with_objects o (call_transition (called_method found n) m))))
+        (given_keeps (number_of tree found) (λ n. with_console printed (with_objects o (call_transition (called_method found n) m))) (λ n. console_keeps (with_objects o (call_transition (called_method found n) m))))
 
     null_keeps : (is_null : Bool) (transition : CallTransition) → KeepsCall transition → KeepsCall (if is_null then Some (call_answer m o printed (OwnEffect (Raises NullReference))) else transition)
     null_keeps true transition keeps = effect_keeps m o printed (Raises NullReference)

@@ -2,7 +2,7 @@
 use Rattle.std.proofs.Common.{◌≡◌, ◌+◌, ◌++◌, ◌==◌, ℕ, true, List, [], ◌∷◌, Some, option_and_then, refl, ap, ◌∙◌, subst}
 use Rattle.reference_machine.specs.Values.{ObjectName, Value, Int32, Int64, Native, Null, Reference}
 use Rattle.reference_machine.specs.States.{Monitor, Free, Held, HeapObject, Frame, State, object_at, monitor_of, with_monitor}
-use Rattle.reference_machine.specs.Effects.{Setting, Effect}
+use Rattle.reference_machine.specs.Effects.{StepContext, Effect}
 use Rattle.reference_machine.specs.BuiltIn.{Action, Construct, Write, Enter, Exit, Start, Join}
 use Rattle.reference_machine.specs.Steps.{effect_of}
 use Rattle.reference_machine.proofs.Runs.InstructionEffects.{Allowed, AnyFault, IsOfSteps, effect_ok}
@@ -10,11 +10,11 @@ use Rattle.reference_machine.specs.Waits.{Wait, called_action, end_awaited, held
 use Rattle.reference_machine.proofs.Deadlocks.OtherThreads.{KeepsOthers, itself_keeps, monitor_keeps, birth_keeps, field_keeps, element_keeps, aside_keeps, start_keeps}
 
 -- the frame's thread waits
-abbrev pub IsWaiting : Setting → State → Frame → Type 0
+abbrev pub IsWaiting : StepContext → State → Frame → Type 0
 IsWaiting here s f = (w : Wait) × (wait_in here.tree s here.thread f ≡ Some w)
 
 -- an effect that keeps what other threads have; one that blocks, where the frame's thread waits
-abbrev pub LeavesOthers : Setting → State → Frame → Effect → Type 0
+abbrev pub LeavesOthers : StepContext → State → Frame → Effect → Type 0
 LeavesOthers here s f e = Allowed (KeepsOthers here.thread s) (IsWaiting here s f) AnyFault e
 
 -- ---- monitors and stacks
@@ -46,7 +46,7 @@ waits_by_top s t Start v rest = refl
 
 -- ---- instructions
 
-module _ (here : Setting) (s : State) where
+module _ (here : StepContext) (s : State) where
   -- a monitor of the thread's own may change
   own_keeps : (n : ObjectName) (owner count : ℕ) (m : Monitor) → monitor_of s n ≡ Some (Held owner count) → (owner == here.thread) ≡ true → KeepsOthers here.thread s (with_monitor s n m)
   own_keeps n owner count m h own = monitor_keeps here.thread s n (Held owner count) m h (λ k c e. subst (λ x. (x == here.thread) ≡ true) (same_owner owner k count c e) own)

@@ -13,7 +13,7 @@ use Rattle.cil_model.specs.Typings.{IsAccepted}
 use Rattle.cil_model.proofs.Lists.{none_is_some, set_is_there}
 use Rattle.cil_model.proofs.SameLaws.{not_both}
 use Rattle.reference_machine.specs.BuiltIn.{Action, Enter, Join}
-use Rattle.reference_machine.specs.Effects.{Setting, Effect, Goes, Blocks, Raises, Sticks}
+use Rattle.reference_machine.specs.Effects.{StepContext, Effect, Goes, Blocks, Raises, Sticks}
 use Rattle.reference_machine.specs.Runs.{StepRequest, RunsTo, followed_by, run}
 use Rattle.reference_machine.specs.States.{Monitor, Held, HeapObject, Frame, Thread, State, is_live, is_live_thread, monitor_of, object_at}
 use Rattle.reference_machine.specs.Steps.{Answers, Stuck, effect_of, continues, instruction_at, charge, step, step_of, with_thread_at}
@@ -269,7 +269,7 @@ same_report r q s t e = cc
 
 module _ (tree : Tree) (limits : Limits) (accepted : IsAccepted tree) (set : List Bool) where
   module _ (s : State) (typed : IsTyped tree s) (blocked : IsBlockedSet tree s set) (t : ℕ) (refused : Bool) (r : Report) (next : State) where
-    abbrev here : Setting
+    abbrev here : StepContext
     here = record { tree = tree; limits = limits; thread = t; is_refused = refused }
 
     -- the set is blocked still, and a step of a thread in it was blocked; or it used up the thread's budget

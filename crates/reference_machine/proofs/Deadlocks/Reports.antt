@@ -8,7 +8,7 @@ use Rattle.cil_model.specs.declared.reports.Report.TheVariants.{Ran, Blocked, En
 use Rattle.cil_model.specs.declared.trees.Tree.{Tree}
 use Rattle.cil_model.specs.Typings.{IsAccepted}
 use Rattle.cil_model.proofs.Lists.{none_is_some}
-use Rattle.reference_machine.specs.Effects.{Setting, Effect, Goes, Blocks, Raises, Sticks}
+use Rattle.reference_machine.specs.Effects.{StepContext, Effect, Goes, Blocks, Raises, Sticks}
 use Rattle.reference_machine.specs.States.{Frame, Thread, State, is_live_thread}
 use Rattle.reference_machine.specs.Steps.{Answers, effect_of, continues, charge, step, step_of}
 use Rattle.reference_machine.specs.TypedStates.{IsTyped}
@@ -38,7 +38,7 @@ blocked_report s t zero frames r next h = inr (sym (same_report (Ended Budget) r
 blocked_report s t (suc left) frames r next h = inl (sym (same_report Blocked r _ next h))
 
 module _ (tree : Tree) (limits : Limits) (accepted : IsAccepted tree) (s : State) (typed : IsTyped tree s) (t : ℕ) (refused : Bool) (r : Report) (next : State) where
-  abbrev here : Setting
+  abbrev here : StepContext
   here = record { tree = tree; limits = limits; thread = t; is_refused = refused }
 
   -- the step of a thread that waits

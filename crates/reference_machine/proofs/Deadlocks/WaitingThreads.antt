@@ -18,7 +18,7 @@ use Rattle.cil_model.specs.Typings.{IsAccepted}
 use Rattle.cil_model.proofs.Lists.{none_is_some}
 use Rattle.cil_model.proofs.SameLaws.{not_both}
 use Rattle.reference_machine.specs.BuiltIn.{Action, Enter, Join, action_of, act, enter, join}
-use Rattle.reference_machine.specs.Effects.{Setting, Effect, Goes, Blocks, Raises, Sticks, when_some, pop_many, are_of_kinds, onward}
+use Rattle.reference_machine.specs.Effects.{StepContext, Effect, Goes, Blocks, Raises, Sticks, when_some, pop_many, are_of_kinds, onward}
 use Rattle.reference_machine.specs.States.{Monitor, Free, Held, HeapObject, Frame, Thread, State, class_of, is_live, is_live_thread, monitor_of, object_at, with_monitor}
 use Rattle.reference_machine.specs.Steps.{instruction_at, effect_of, execute, frame_for, is_too_deep, operands, run_method, run_virtual}
 use Rattle.reference_machine.specs.Values.{ObjectName, Value, Reference}
@@ -42,7 +42,7 @@ unblocked : {A : Type 0} (e : Effect) → DoesNotBlock e → e ≡ Blocks → A
 unblocked {A} e k h = absurd (subst DoesNotBlock h k)
 
 -- where a frame's instruction blocks, its thread waits
-pub blocked_waits : (here : Setting) → IsLegal here.tree → (s : State) (f : Frame) (below : List Frame) → effect_of here s (f ∷ below) ≡ Blocks → IsWaiting here s f
+pub blocked_waits : (here : StepContext) → IsLegal here.tree → (s : State) (f : Frame) (below : List Frame) → effect_of here s (f ∷ below) ≡ Blocks → IsWaiting here s f
 blocked_waits here legal s f below h = by_effect (effect_of here s (f ∷ below)) (effect_keeps here s f below) h
   where
     by_effect : (e : Effect) → LeavesOthers here s f e → e ≡ Blocks → IsWaiting here s f
@@ -53,7 +53,7 @@ blocked_waits here legal s f below h = by_effect (effect_of here s (f ∷ below)
 
 -- ---- what waits blocks
 
-module _ (here : Setting) (s : State) (f : Frame) (below : List Frame) where
+module _ (here : StepContext) (s : State) (f : Frame) (below : List Frame) where
   -- where one operand is taken and nothing is stuck, it is the topmost value
   abbrev TakesOne : List Value → Effect → (List Value → List Value → Effect) → Type 0
   TakesOne stack e go = (v : Value) × (rest : List Value) × (stack ≡ v ∷ rest) × (e ≡ go (v ∷ []) rest)
@@ -182,7 +182,7 @@ module _ (here : Setting) (s : State) (f : Frame) (below : List Frame) where
 
 -- In a typed state, where a frame's instruction calls a member that acts, and the topmost value is an object, its effect is that of the
 -- action on the object.
-pub calling_acts : (here : Setting) → IsAccepted here.tree → (s : State) → IsTyped here.tree s → (f : Frame) (below : List Frame) → AreTypedFrames here.tree s (f ∷ below) →
+pub calling_acts : (here : StepContext) → IsAccepted here.tree → (s : State) → IsTyped here.tree s → (f : Frame) (below : List Frame) → AreTypedFrames here.tree s (f ∷ below) →
     (i : Instruction) → instruction_at f ≡ Some i → (a : Action) → called_action here.tree i ≡ Some a → (n : ObjectName) → top_object f.stack ≡ Some n →
     (rest : List Value) × (f.stack ≡ Reference n ∷ rest) × (effect_of here s (f ∷ below) ≡ act here s f below a (Reference n ∷ []) rest) × IsTypedEffect here.tree (act here s f below a (Reference n ∷ []) rest)
 calling_acts here accepted s typed f below frames i at a acts n top =
@@ -193,7 +193,7 @@ calling_acts here accepted s typed f below frames i at a acts n top =
     (is.0, is.1, ap (λ x. when_some x (execute here s f below)) at ∙ is.2, subst (IsTypedEffect here.tree) is.2 done)
 
 -- the instruction of a frame whose thread waits blocks
-pub waiting_blocks : (here : Setting) → IsAccepted here.tree → (s : State) → IsTyped here.tree s → (f : Frame) (below : List Frame) → AreTypedFrames here.tree s (f ∷ below) → IsWaiting here s f → effect_of here s (f ∷ below) ≡ Blocks
+pub waiting_blocks : (here : StepContext) → IsAccepted here.tree → (s : State) → IsTyped here.tree s → (f : Frame) (below : List Frame) → AreTypedFrames here.tree s (f ∷ below) → IsWaiting here s f → effect_of here s (f ∷ below) ≡ Blocks
 waiting_blocks here accepted s typed f below frames (w, waits) =
     option_and_then_some (λ x. option_and_then (λ a. wait_by s here.thread a f.stack) (called_action here.tree x)) (instruction_at f) w waits (λ i at own.
     option_and_then_some (λ a. wait_by s here.thread a f.stack) (called_action here.tree i) w own (λ a acts h. by_object i at a acts h (waits_for_object here s f below w [] a f.stack h)))
@@ -211,7 +211,7 @@ live_has_none : (e : Option End) → is_none e ≡ true → e ≡ None
 live_has_none None h = refl
 live_has_none (Some e) h = not_both false refl h
 
-module _ (here : Setting) (s : State) (x : Thread) (there : slice_get s.threads here.thread ≡ Some x) (lives : is_live_thread x ≡ true) where
+module _ (here : StepContext) (s : State) (x : Thread) (there : slice_get s.threads here.thread ≡ Some x) (lives : is_live_thread x ≡ true) where
   -- what it waits for is what its running frame waits for
   own_wait : wait_of here.tree s here.thread ≡ option_and_then (wait_in here.tree s here.thread) (slice_get x.frames 0)
   own_wait =

@@ -24,7 +24,7 @@ use Rattle.cil_model.proofs.Lists.{none_is_some}
 use Rattle.reference_machine.specs.Values.{ObjectName, Value, Int32, Null, Reference, zero_of, is_of_kind}
 use Rattle.reference_machine.specs.Arithmetic.{binary_value, unary_value, shift_value, compare_values, branch_values, is_set, convert_32, convert_64, as_index, not_option}
 use Rattle.reference_machine.specs.States.{Monitor, Free, Held, Contents, Array, HeapObject, Frame, State, entry_at, replaced_entry, field_value, with_field, object_at, with_object, class_of, monitor_of, is_live, array_at, with_element, next_name, with_birth, new_instance}
-use Rattle.reference_machine.specs.Effects.{Setting, Effect, Goes, Blocks, Raises, Sticks, when_some, unless_fault, pop_many, not_null, are_of_kinds, new_frame, after, onward, return_value}
+use Rattle.reference_machine.specs.Effects.{StepContext, Effect, Goes, Blocks, Raises, Sticks, when_some, unless_fault, pop_many, not_null, are_of_kinds, new_frame, after, onward, return_value}
 use Rattle.reference_machine.specs.BuiltIn.{Action, Construct, Write, Enter, Exit, Start, Join, action_of, line_of, enter, exit, with_thread, begin, start, join, thread_object, act}
 use Rattle.reference_machine.specs.Reachable.{constructed_value, values_of_contents}
 use Rattle.reference_machine.specs.Steps.{key_of, store_at, execute, jump, branch_if, birth, new_array, in_range, element, load_element, store_element, may_hold, store_reference, cast, frame_for, is_too_deep, run_method as run_found, operands, method_for, run_virtual, construct, push_and_advance_value, return_from, to_label, switch_on}
@@ -86,7 +86,7 @@ pub record IsRunningWithin (Inside : ℕ → Type 0) (s : State) (f : Frame) (be
   pub frame : IsFrameWithin Inside f
   pub waiting : AreFramesWithin Inside below
 
-module _ (Inside : ℕ → Type 0) (here : Setting) (s : State) (f : Frame) (below : List Frame) (running : IsRunningWithin Inside s f below) where
+module _ (Inside : ℕ → Type 0) (here : StepContext) (s : State) (f : Frame) (below : List Frame) (running : IsRunningWithin Inside s f below) where
   -- ---- what an instruction continues with
 
   -- in another state

@@ -9,7 +9,7 @@ use Rattle.cil_model.specs.declared.reports.Report.{Report}
 use Rattle.cil_model.specs.declared.reports.Report.TheVariants.{Ran, Blocked, Ended, Absent}
 use Rattle.reference_machine.specs.Values.{Born}
 use Rattle.reference_machine.specs.States.{Frame, Thread, State}
-use Rattle.reference_machine.specs.Effects.{Setting, Effect, Goes, Blocks, Raises, Sticks}
+use Rattle.reference_machine.specs.Effects.{StepContext, Effect, Goes, Blocks, Raises, Sticks}
 use Rattle.reference_machine.specs.RetainedWords.{IsRetained}
 use Rattle.reference_machine.specs.Reachable.{IsReachable}
 use Rattle.reference_machine.specs.Steps.{StepOutcome, Answers, Stuck, instruction_at, effect_of, with_thread_at, ended_as, continues, charge, step_of, step}
@@ -49,14 +49,14 @@ module _ (Inside : ℕ → Type 0) where
   step_charged_within s s' t left frames (Raises x) r h k a e = ended_within s s' t left (ByFault x) r h e
   step_charged_within s s' t left frames Sticks r h k a e = stuck_answers r s' e
 
-  effect_within : (here : Setting) (s : State) (frames : List Frame) → IsClosed Inside s → AreFramesWithin Inside frames → KeepsWithin Inside (effect_of here s frames)
+  effect_within : (here : StepContext) (s : State) (frames : List Frame) → IsClosed Inside s → AreFramesWithin Inside frames → KeepsWithin Inside (effect_of here s frames)
   effect_within here s [] h k = sticks
   effect_within here s (f ∷ below) h k = given_within Inside (instruction_at f) (λ i e. instruction_within Inside here s f below (record { closed = h; frame = k.0; waiting = k.1 }) i)
 
   pub step_within : (tree : Tree) (limits : Limits) (s s' : State) (t : ℕ) (refused : Bool) (r : Report) → IsClosed Inside s → step tree limits s t refused ≡ Answers r s' → IsClosed Inside s'
   step_within tree limits s s' t refused r h e = by_thread (slice_get s.threads t) refl e
     where
-      here : Setting
+      here : StepContext
       here = record { tree = tree; limits = limits; thread = t; is_refused = refused }
 
       same : Answers Absent s ≡ Answers r s' → IsClosed Inside s'

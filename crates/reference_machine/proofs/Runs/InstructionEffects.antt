@@ -32,7 +32,7 @@ use Rattle.reference_machine.specs.Values.{ObjectName, Value, Int32, Null, Refer
 use Rattle.reference_machine.specs.Arithmetic.{binary_value, unary_value, shift_value, compare_values, branch_values, is_set, convert_32, convert_64, as_index, not_option}
 use Rattle.reference_machine.specs.States.{Monitor, Free, Held, Contents, Array, HeapObject, Frame, Thread, State, is_live_thread, entry_at, replaced_entry, field_value, with_field, object_at, with_object, class_of, monitor_of, with_monitor, is_live, array_at, with_element, next_name, with_birth, new_instance}
 use Rattle.cil_model.specs.Stacks.{take_one, take_two, take_three}
-use Rattle.reference_machine.specs.Effects.{Setting, Effect, Goes, Blocks, Raises, Sticks, when_some, unless_fault, not_null, are_of_kinds, new_frame, after, onward}
+use Rattle.reference_machine.specs.Effects.{StepContext, Effect, Goes, Blocks, Raises, Sticks, when_some, unless_fault, not_null, are_of_kinds, new_frame, after, onward}
 use Rattle.reference_machine.specs.BuiltIn.{Action, Construct, Write, Enter, Exit, Start, Join, action_of, line_of, enter, exit, with_thread, begin, start, join, thread_object, act}
 use Rattle.reference_machine.specs.Steps.{Answers, Stuck, instruction_at, effect_of, with_thread_at, ended_as, continues, charge, step_of, step, key_of, store_at, execute, jump, branch_if, birth, new_array, in_range, element, load_element, store_element, may_hold, store_reference, cast, frame_for, is_too_deep, run_method as run_found, operands, method_for, run_virtual, construct, return_from, to_label, switch_on}
 use Rattle.reference_machine.specs.Faults.{faults_of_action, MayRaise, itself, member}
@@ -55,7 +55,7 @@ abbrev pub AnyFault : Fault → Type 0
 AnyFault x = Unit {0}
 
 -- a kind of change that each change of a state by an instruction is of
-pub record IsOfSteps (here : Setting) (s : State) (G : State → Type 0) : Type 0 where
+pub record IsOfSteps (here : StepContext) (s : State) (G : State → Type 0) : Type 0 where
   pub stays : G s
   pub prints : (line : List ℕ) → G (record s { printed = s.printed ++ line })
   pub bears : (contents : Contents) → G (with_birth s contents)
@@ -126,14 +126,14 @@ top_taken {X = X} n xs enough x is = by_count n xs one is
     by_count _ ys e h = absurd (omega (arith, e))
 
 -- what an action waits for on an operand is a reason to block
-abbrev Waits : Setting → State → Type 0 → Action → Value → Type 0
+abbrev Waits : StepContext → State → Type 0 → Action → Value → Type 0
 Waits here s B a v = (w : Wait) → wait_by s here.thread a (v ∷ []) ≡ Some w → B
 
 -- and so is what the member that an instruction calls waits for
-abbrev pub Waiting : Setting → State → Frame → Type 0 → Instruction → Type 0
+abbrev pub Waiting : StepContext → State → Frame → Type 0 → Instruction → Type 0
 Waiting here s f B i = (a : Action) → called_action here.tree i ≡ Some a → (v : Value) (rest : List Value) → f.stack ≡ v ∷ rest → Waits here s B a v
 
-module _ {G : State → Type 0} {B : Type 0} (here : Setting) (s : State) (f : Frame) (below : List Frame) (kind : IsOfSteps here s G) where
+module _ {G : State → Type 0} {B : Type 0} (here : StepContext) (s : State) (f : Frame) (below : List Frame) (kind : IsOfSteps here s G) where
   module _ {F : Fault → Type 0} where
     -- on in the same state
     on : (fs : List Frame) → Allowed G B F (Goes fs s)
@@ -367,7 +367,7 @@ module _ {G : State → Type 0} {B : Type 0} (here : Setting) (s : State) (f : F
 -- ---- what an instruction leaves
 
 -- an instruction takes nothing back
-pub follows_steps : (here : Setting) (s : State) → IsOfSteps here s (Follows s)
+pub follows_steps : (here : StepContext) (s : State) → IsOfSteps here s (Follows s)
 follows_steps here s = record {
   stays = follows_itself s;
   prints = λ line. record { objects = continues_itself (shapes s); statics = refl; literals_stay = refl; printed = (line, refl) };
@@ -416,7 +416,7 @@ step_charged_ok s s' t left frames Blocks r a k = going_ok s s s' t left frames 
 step_charged_ok s s' t left frames (Raises x) r a k = ended_ok s s s' t left (ByFault x) r (follows_itself s) k
 step_charged_ok s s' t left frames Sticks r a k = stuck_answers r s' k
 
-frames_ok : (here : Setting) (s : State) (frames : List Frame) → Allowed (Follows s) (Unit {0}) AnyFault (effect_of here s frames)
+frames_ok : (here : StepContext) (s : State) (frames : List Frame) → Allowed (Follows s) (Unit {0}) AnyFault (effect_of here s frames)
 frames_ok here s [] = sticks
 frames_ok here s (f ∷ below) = effect_ok here s f below (follows_steps here s) (λ i e a acts v rest stack w h. tt)
 
@@ -424,7 +424,7 @@ frames_ok here s (f ∷ below) = effect_ok here s f below (follows_steps here s)
 pub step_follows : (tree : Tree) (limits : Limits) (s : State) (t : ℕ) (refused : Bool) (r : Report) (s' : State) → step tree limits s t refused ≡ Answers r s' → Follows s s'
 step_follows tree limits s t refused r s' e = by_thread (slice_get s.threads t) e
   where
-    here : Setting
+    here : StepContext
     here = record { tree = tree; limits = limits; thread = t; is_refused = refused }
 
     same : Answers Absent s ≡ Answers r s' → Follows s s'
@@ -449,7 +449,7 @@ pub no_raise : {A : Type 0} (e : Effect) (x : Fault) → e ≡ Raises x → Rais
 no_raise {A} e x k h = absurd (subst RaisesNothing k h)
 
 -- the faults that an instruction raises are listed
-pub raised_is_listed : (here : Setting) (s : State) (f : Frame) (below : List Frame) (i : Instruction) (x : Fault) → execute here s f below i ≡ Raises x → MayRaise here.tree i x
+pub raised_is_listed : (here : StepContext) (s : State) (f : Frame) (below : List Frame) (i : Instruction) (x : Fault) → execute here s f below i ≡ Raises x → MayRaise here.tree i x
 raised_is_listed here s f below i x e = by_effect (execute here s f below i) (instruction_ok here s f below (follows_steps here s) i (λ a acts v rest stack w h. tt)) e
   where
     by_effect : (e : Effect) → Allowed (Follows s) (Unit {0}) (MayRaise here.tree i) e → e ≡ Raises x → MayRaise here.tree i x

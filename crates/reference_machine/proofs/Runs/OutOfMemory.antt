@@ -11,7 +11,7 @@ use Rattle.cil_model.specs.Bodies.{constructor_reference}
 use Rattle.cil_model.specs.Chains.{find_method}
 use Rattle.reference_machine.specs.Arithmetic.{as_index}
 use Rattle.reference_machine.specs.BuiltIn.{Action, Enter, Exit, Start, Join}
-use Rattle.reference_machine.specs.Effects.{Setting, Effect, Goes, Blocks, Raises, Sticks}
+use Rattle.reference_machine.specs.Effects.{StepContext, Effect, Goes, Blocks, Raises, Sticks}
 use Rattle.reference_machine.specs.Growth.{Follows}
 use Rattle.reference_machine.specs.Faults.{faults_of_operation, faults_of, faults_of_action, MayRaise, itself, member}
 use Rattle.reference_machine.specs.States.{Frame, State}
@@ -55,10 +55,10 @@ without_action Join = (refl, (refl, tt))
 without_action _ = tt
 
 -- a fault that is out of memory results from a refusal alone
-abbrev OfRefusal : Setting → Fault → Type 0
+abbrev OfRefusal : StepContext → Fault → Type 0
 OfRefusal here x = x ≡ OutOfMemory → here.is_refused ≡ true
 
-module _ (here : Setting) (s : State) (f : Frame) (below : List Frame) where
+module _ (here : StepContext) (s : State) (f : Frame) (below : List Frame) where
   of_effect : (e : Effect) → Allowed (Follows s) (Unit {0}) (OfRefusal here) e → e ≡ Raises OutOfMemory → here.is_refused ≡ true
   of_effect (Raises x) (raises _ h) k = h (same_raised x OutOfMemory k)
   of_effect (Goes fs s') a k = no_raise (Goes fs s') OutOfMemory k tt

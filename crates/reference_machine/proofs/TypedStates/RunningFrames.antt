@@ -12,7 +12,7 @@ use Rattle.cil_model.specs.TypeTree.{StackType}
 use Rattle.cil_model.specs.Typings.{Reaches, ReachesLabel, FlowsOn, IsAccepted}
 use Rattle.reference_machine.specs.Values.{Value}
 use Rattle.reference_machine.specs.States.{Frame, State}
-use Rattle.reference_machine.specs.Effects.{Setting, Effect, Goes, Blocks, Raises, Sticks, when_some, onward}
+use Rattle.reference_machine.specs.Effects.{StepContext, Effect, Goes, Blocks, Raises, Sticks, when_some, onward}
 use Rattle.reference_machine.specs.Steps.{instruction_at, next, jump, branch_if}
 use Rattle.reference_machine.specs.Growth.{Follows}
 use Rattle.reference_machine.proofs.Runs.StateChanges.{follows_itself}
@@ -28,7 +28,7 @@ IsTypedEffect tree (Raises x) = Unit {0}
 IsTypedEffect tree Sticks = ⊥
 
 -- a typed frame of an accepted program, above others, whose next instruction is this one
-pub record IsRunning (here : Setting) (s : State) (f : Frame) (below : List Frame) (i : Instruction) : Type 0 where
+pub record IsRunning (here : StepContext) (s : State) (f : Frame) (below : List Frame) (i : Instruction) : Type 0 where
   pub accepted : IsAccepted here.tree
   pub typed : IsTyped here.tree s
   pub frame : IsTypedFrame here.tree s None f
@@ -43,7 +43,7 @@ pub record IsRunning (here : Setting) (s : State) (f : Frame) (below : List Fram
   pub flows : flow here.tree (argument_types f.method f.owner) frame.code.locals f.method.signature.return_type i stack ≡ Some result
   pub on : FlowsOn here.tree frame.code frame.typing f.pc line result
 
-module _ (here : Setting) (s : State) (f : Frame) (below : List Frame) (i : Instruction) (running : IsRunning here s f below i) where
+module _ (here : StepContext) (s : State) (f : Frame) (below : List Frame) (i : Instruction) (running : IsRunning here s f below i) where
   -- continues at a pc that a stack reaches, with values of that stack, in a state that follows
   pub moved : (s' : State) → IsTyped here.tree s' → Follows s s' → (arguments locals rest : List Value) (pc : ℕ) (types : List StackType) →
       HaveTypes here.tree s' arguments (argument_types f.method f.owner) → HaveTypes here.tree s' locals running.frame.code.locals →
@@ -106,7 +106,7 @@ there_is : {X : Type 0} (xs : List X) (n m : ℕ) → m ≡ length xs → n < m 
 there_is [] n m e below = absurd (grind (arith))
 there_is (x ∷ xs) n m e below = (_, slice_get-get_or (x ∷ xs) n x (subst (λ k. n < k) e below))
 
-module _ (here : Setting) (accepted : IsAccepted here.tree) (s : State) (typed : IsTyped here.tree s) (f : Frame) (below : List Frame) (frames : AreTypedFrames here.tree s (f ∷ below)) where
+module _ (here : StepContext) (accepted : IsAccepted here.tree) (s : State) (typed : IsTyped here.tree s) (f : Frame) (below : List Frame) (frames : AreTypedFrames here.tree s (f ∷ below)) where
   -- it is at an instruction, which its typing allows
   pub runs_at : (i : Instruction) × (instruction_at f ≡ Some i) × IsRunning here s f below i
   runs_at =

@@ -18,7 +18,7 @@ use Rattle.cil_model.proofs.Lists.{none_is_some}
 use Rattle.cil_model.proofs.SameLaws.{never, both_first}
 use Rattle.reference_machine.specs.Values.{ObjectName, Born, Literal, Value, Native, Reference}
 use Rattle.reference_machine.specs.States.{Monitor, Free, Held, HeapObject, Frame, Thread, State, object_at, with_object, class_of, monitor_of, with_monitor, is_live}
-use Rattle.reference_machine.specs.Effects.{Setting, Effect, Blocks, Raises, Sticks, when_some, new_frame, onward}
+use Rattle.reference_machine.specs.Effects.{StepContext, Effect, Blocks, Raises, Sticks, when_some, new_frame, onward}
 use Rattle.reference_machine.specs.BuiltIn.{Action, Construct, Write, Enter, Exit, Start, Join, action_of, line_of, enter, exit, with_thread, begin, start, join, thread_object, act}
 use Rattle.reference_machine.specs.Growth.{Follows}
 use Rattle.reference_machine.proofs.Runs.StateChanges.{follows_monitor, follows_object_at, follows_more}
@@ -36,7 +36,7 @@ use Rattle.reference_machine.proofs.Programs.FoundMethods.{arguments_of_instance
 use Rattle.reference_machine.proofs.Programs.BuiltInMembers.{IsOperandOf}
 use Rattle.reference_machine.proofs.TypedStates.Instances.{IsInstanceOf, instance_of, instance_typed, string_is_literal, thread_is_neither, assignable_is_thread}
 
-module _ (here : Setting) (s : State) (f : Frame) (below : List Frame) (i : Instruction) (running : IsRunning here s f below i) (falls : IsTrue (falls_through i)) (rest : List Value) (values : HaveStackTypes here.tree s rest running.result) where
+module _ (here : StepContext) (s : State) (f : Frame) (below : List Frame) (i : Instruction) (running : IsRunning here s f below i) (falls : IsTrue (falls_through i)) (rest : List Value) (values : HaveStackTypes here.tree s rest running.result) where
   -- on in a state that follows
   onward_in : (s' : State) → IsTyped here.tree s' → Follows s s' → IsTypedEffect here.tree (onward f below s' rest)
   onward_in s' typed follows = onward_typed here s f below i running falls s' typed follows rest (stack_keeps here.tree s s' follows rest running.result values)

@@ -15,7 +15,7 @@ use Rattle.cil_model.proofs.Lists.{none_is_some}
 use Rattle.cil_model.proofs.SameLaws.{never, if_true}
 use Rattle.reference_machine.specs.Values.{ObjectName, Value, Int32, Int64, Native, Null, Reference, integer_zero, same_kind, is_of_kind}
 use Rattle.reference_machine.specs.States.{Frame, State}
-use Rattle.reference_machine.specs.Effects.{Setting, Effect, Sticks, not_null, are_of_kinds}
+use Rattle.reference_machine.specs.Effects.{StepContext, Effect, Sticks, not_null, are_of_kinds}
 use Rattle.reference_machine.specs.Steps.{operands}
 use Rattle.reference_machine.specs.TypedStates.{IsObjectOf, HasType, HaveTypes, HaveStackTypes}
 use Rattle.reference_machine.proofs.TypedStates.StackOperands.{object_is_reference, value_fits}
@@ -90,7 +90,7 @@ module _ (tree : Tree) (s : State) where
 
 -- ---- what continues with them
 
-module _ (here : Setting) (s : State) (f : Frame) (below : List Frame) (legal : IsLegal here.tree) where
+module _ (here : StepContext) (s : State) (f : Frame) (below : List Frame) (legal : IsLegal here.tree) where
   -- operands that the flow rule takes are there, and what continues with them has their types
   pub operands_typed : (types : List DeclaredType) (go : List Value → List Value → Effect) (stack rest : List StackType) → take_operands here.tree types stack ≡ Some rest → HaveStackTypes here.tree s f.stack stack →
       ((arguments vs : List Value) → HaveTypes here.tree s arguments types → HaveStackTypes here.tree s vs rest → IsTypedEffect here.tree (go arguments vs)) → IsTypedEffect here.tree (operands here s f below types go)

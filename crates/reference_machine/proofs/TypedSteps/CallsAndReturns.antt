@@ -29,7 +29,7 @@ use Rattle.cil_model.proofs.CompleteLaws.{test_is_complete}
 use Rattle.cil_model.proofs.BelowLaws.{element_is_reference}
 use Rattle.reference_machine.specs.Values.{ObjectName, Value, Native, Null, Reference, is_of_kind}
 use Rattle.reference_machine.specs.States.{Frame, State, type_of, class_of}
-use Rattle.reference_machine.specs.Effects.{Setting, Goes, Raises, Sticks, when_some, new_frame, after, return_value}
+use Rattle.reference_machine.specs.Effects.{StepContext, Goes, Raises, Sticks, when_some, new_frame, after, return_value}
 use Rattle.reference_machine.specs.BuiltIn.{Action, action_of, act}
 use Rattle.reference_machine.specs.Steps.{frame_for, is_too_deep, run_method, operands, run_virtual, push_and_advance, push_and_advance_value, execute}
 use Rattle.reference_machine.specs.Growth.{Follows}
@@ -83,7 +83,7 @@ module _ (tree : Tree) (s : State) (typed : IsTyped tree s) where
       )
   returned_typed _ _ _ value waiting = elim value [ ]
 
-module _ (here : Setting) (s : State) (f : Frame) (below : List Frame) where
+module _ (here : StepContext) (s : State) (f : Frame) (below : List Frame) where
   -- an object is of its own type
   made_is_given : IsLegal here.tree → (n : ObjectName) → IsConstructing s f n → IsGiven here.tree s (Some (Reference n)) (type_of s n)
   made_is_given legal n made =
@@ -128,7 +128,7 @@ module _ (here : Setting) (s : State) (f : Frame) (below : List Frame) where
 
 -- ---- the beginning of a method
 
-module _ (here : Setting) (s : State) (f : Frame) (below : List Frame) (i : Instruction) (running : IsRunning here s f below i) (falls : IsTrue (falls_through i)) where
+module _ (here : StepContext) (s : State) (f : Frame) (below : List Frame) (i : Instruction) (running : IsRunning here s f below i) (falls : IsTrue (falls_through i)) where
   -- the caller waits after its call for what the method gives
   caller_typed : (s' : State) → Follows s s' → (d : Option DeclaredType) (rest : List Value) (types : List StackType) → HaveStackTypes here.tree s' rest types → running.result ≡ give d types → IsTypedFrame here.tree s' d (after f rest)
   caller_typed s' follows d rest types values result =
@@ -209,7 +209,7 @@ pub given_to : {A : Type 0} (d : Option DeclaredType) (o : Option (List StackTyp
 given_to d None result e each = none_is_some result e
 given_to d (Some types) result e each = each types refl (sym (same_Some (give d types) result e))
 
-module _ (here : Setting) (s : State) (f : Frame) (below : List Frame) where
+module _ (here : StepContext) (s : State) (f : Frame) (below : List Frame) where
   -- a method of the signature gives what the reference says
   gives_same : (m : Method) (signature : Signature) → m.signature ≡ signature → (result types : List StackType) → result ≡ give signature.return_type types → result ≡ give m.signature.return_type types
   gives_same m signature same result types e = e ∙ ap (λ (x : Signature). give x.return_type types) (sym same)

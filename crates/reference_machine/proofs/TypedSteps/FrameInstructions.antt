@@ -30,7 +30,7 @@ use Rattle.cil_model.proofs.SameLaws.{both_first, both_second, either, if_true}
 use Rattle.reference_machine.specs.Values.{Literal, Value, Int32, Int64, Native, Null, Reference, same_kind}
 use Rattle.reference_machine.specs.Arithmetic.{binary, unary, shift, binary_value, unary_value, shift_value, equal_values, ordered_values, compare_values, branch_values, is_set, not_option, convert_32, convert_64, one_or_zero, result_as}
 use Rattle.reference_machine.specs.States.{Frame, State, same_kind_or_none}
-use Rattle.reference_machine.specs.Effects.{Setting, Effect, Sticks, when_some, unless_fault}
+use Rattle.reference_machine.specs.Effects.{StepContext, Effect, Sticks, when_some, unless_fault}
 use Rattle.reference_machine.specs.Steps.{next, branch_if, store_at, to_label, switch_on, execute}
 use Rattle.reference_machine.proofs.Runs.StateChanges.{follows_itself}
 use Rattle.reference_machine.specs.TypedStates.{HasType, HasStackType, HaveTypes, HaveStackTypes}
@@ -38,7 +38,7 @@ use Rattle.reference_machine.proofs.TypedStates.RunningFrames.{IsTypedEffect, Is
 use Rattle.reference_machine.proofs.Programs.Literals.{literal_of_program}
 use Rattle.reference_machine.proofs.TypedStates.StackOperands.{value_fits, kinds_agree, from_int32, from_integer, from_integers, from_reference, from_index, int32_typed, int64_typed, value_at, values_with, one_typed, two_typed, was_allowed}
 
-module _ (here : Setting) (s : State) (f : Frame) (below : List Frame) where
+module _ (here : StepContext) (s : State) (f : Frame) (below : List Frame) where
   abbrev Fine : Effect → Type 0
   Fine e = IsTypedEffect here.tree e
 

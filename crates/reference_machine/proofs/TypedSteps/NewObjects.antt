@@ -28,7 +28,7 @@ use Rattle.cil_model.proofs.Lists.{none_is_some, passes_not}
 use Rattle.cil_model.proofs.SameLaws.{never, both_first, either, is_not, same_class_equal}
 use Rattle.reference_machine.specs.Values.{ObjectName, Value, Reference}
 use Rattle.reference_machine.specs.States.{Contents, Frame, State, next_name, with_birth, new_instance}
-use Rattle.reference_machine.specs.Effects.{Setting, Effect, Raises, when_some, new_frame, onward}
+use Rattle.reference_machine.specs.Effects.{StepContext, Effect, Raises, when_some, new_frame, onward}
 use Rattle.reference_machine.specs.BuiltIn.{Action, action_of}
 use Rattle.reference_machine.specs.Steps.{birth, frame_for, is_too_deep, operands, construct, execute}
 use Rattle.reference_machine.specs.Growth.{Follows}
@@ -105,7 +105,7 @@ constructor_is_own tree c k parameters m h = by_case (either (same_class k c) fa
 
 -- ---- a new object
 
-module _ (here : Setting) (s : State) (f : Frame) (below : List Frame) where
+module _ (here : StepContext) (s : State) (f : Frame) (below : List Frame) where
   -- a birth is refused, or the instruction continues
   birth_typed : (contents : Contents) (go : ObjectName → State → Effect) → IsTypedEffect here.tree (go (next_name s) (with_birth s contents)) → IsTypedEffect here.tree (birth here s f below contents go)
   birth_typed contents go h = by_refusal here.is_refused

@@ -32,7 +32,7 @@ use Rattle.reference_machine.specs.Growth.{Follows}
 use Rattle.reference_machine.specs.Values.{ObjectName, Born, Literal, Value, Int32, Int64, Native, Null, Reference, zero_of}
 use Rattle.reference_machine.specs.Arithmetic.{as_index}
 use Rattle.reference_machine.specs.States.{Contents, Instance, Array, HeapObject, Frame, State, entry_at, replaced_entry, type_of_contents, type_of, elements_of_contents, field_value, with_field, array_at, with_element, next_name, with_birth}
-use Rattle.reference_machine.specs.Effects.{Setting, Effect, Raises, Sticks, when_some, not_null, onward}
+use Rattle.reference_machine.specs.Effects.{StepContext, Effect, Raises, Sticks, when_some, not_null, onward}
 use Rattle.reference_machine.specs.Steps.{key_of, next, new_array, in_range, element, load_element, store_element, may_hold, store_reference, execute}
 use Rattle.reference_machine.proofs.Runs.StateChanges.{follows_birth, follows_field, follows_statics, follows_element}
 use Rattle.reference_machine.specs.TypedStates.{IsObjectOf, HasType, HasStackType, HaveStackTypes, IsTyped}
@@ -123,7 +123,7 @@ module _ (tree : Tree) (legal : IsLegal tree) (s : State) where
   held_fits t w (inl e) = subst (λ x. IsTrue (is_assignable tree t x)) e (test_is_complete tree legal t t to_itself)
   held_fits t w (inr h) = h.2
 
-module _ (here : Setting) (s : State) (f : Frame) (below : List Frame) where
+module _ (here : StepContext) (s : State) (f : Frame) (below : List Frame) where
   abbrev Fine : Effect → Type 0
   Fine e = IsTypedEffect here.tree e
 

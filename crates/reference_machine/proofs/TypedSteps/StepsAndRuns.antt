@@ -10,7 +10,7 @@ use Rattle.cil_model.specs.declared.reports.Report.{Report}
 use Rattle.cil_model.specs.declared.reports.Report.TheVariants.{Ran, Blocked, Ended, Absent}
 use Rattle.cil_model.specs.Typings.{IsAccepted}
 use Rattle.reference_machine.specs.States.{Frame, Thread, State}
-use Rattle.reference_machine.specs.Effects.{Setting, Effect, Goes, Blocks, Raises, Sticks, when_some}
+use Rattle.reference_machine.specs.Effects.{StepContext, Effect, Goes, Blocks, Raises, Sticks, when_some}
 use Rattle.reference_machine.specs.Steps.{StepOutcome, Answers, execute, effect_of, with_thread_at, ended_as, continues, charge, step_of, step}
 use Rattle.reference_machine.specs.Runs.{StepRequest, RunsTo, preceded_by, followed_by, initial_state, run}
 use Rattle.reference_machine.specs.TypedStates.{AreTypedFrames, IsTyped}
@@ -46,11 +46,11 @@ module _ (tree : Tree) where
 
 -- each instruction has a typed effect
 abbrev pub InstructionsAreTyped : Type 0
-InstructionsAreTyped = (here : Setting) (s : State) (f : Frame) (below : List Frame) (i : Instruction) → IsRunning here s f below i → IsTypedEffect here.tree (execute here s f below i)
+InstructionsAreTyped = (here : StepContext) (s : State) (f : Frame) (below : List Frame) (i : Instruction) → IsRunning here s f below i → IsTypedEffect here.tree (execute here s f below i)
 
 module _ (instruction_typed : InstructionsAreTyped) (tree : Tree) (limits : Limits) (accepted : IsAccepted tree) where
   module _ (t : ℕ) (refused : Bool) where
-    abbrev here : Setting
+    abbrev here : StepContext
     here = record { tree = tree; limits = limits; thread = t; is_refused = refused }
 
     effect_typed : (s : State) → IsTyped tree s → (frames : List Frame) → AreTypedFrames tree s frames → IsTypedEffect tree (effect_of here s frames)

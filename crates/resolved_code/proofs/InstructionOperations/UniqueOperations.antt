@@ -30,7 +30,7 @@ use Rattle.name_tables.specs.declared.ids.FieldId.{FieldId}
 use Rattle.name_tables.specs.declared.ids.MethodId.{MethodId}
 use Rattle.name_tables.proofs.NumberLaws.{field_has_id, method_has_id}
 use Rattle.resolved_code.specs.ById.{class_name, element_at, type_at}
-use Rattle.resolved_code.specs.Resolved.{IsField, IsMethod, IsOperation}
+use Rattle.resolved_code.specs.ResolvedPrograms.{IsField, IsMethod, IsOperation}
 use Rattle.resolved_code.specs.Rules.{all_some, element_rule, field_id, field_rule, method_id, method_rule, operation_rule, type_rule, with_owner}
 use Rattle.resolved_code.specs.declared.operations.Operation.{Operation}
 use Rattle.resolved_code.specs.declared.operations.Operation.TheVariants as Resolved

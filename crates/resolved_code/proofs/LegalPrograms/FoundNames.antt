@@ -34,7 +34,7 @@ use Rattle.cil_model.specs.Legality.{IsLegal, is_known_extern, is_resolved, clas
 use Rattle.cil_model.proofs.Lists.{list_all-flat_map, list_all-filter_map}
 use Rattle.cil_model.proofs.SameLaws.{both_first, both_second, never}
 use Rattle.cil_model.proofs.Legal.{names_found}
-use Rattle.name_tables.specs.Sameness.{same_field, same_called, called_of}
+use Rattle.name_tables.specs.Sameness.{same_field, same_call_identity, call_identity_of}
 use Rattle.name_tables.specs.Numbers.{class_number, index_in, nearest_number, field_number, method_number, field_at, method_at, declarations, source_entry}
 use Rattle.name_tables.proofs.FirstIndices.{is_some-position_from}
 use Rattle.name_tables.proofs.NumberLaws.{declared_at_none, field_has_id, method_has_id, numbers_of_unknown}
@@ -166,7 +166,7 @@ module _ (tree : Tree) where
   method_owner is_instance r h = by_number (class_number tree r.owner) refl
     where
       by_number : (o : Option ℕ) → class_number tree r.owner ≡ o → is_some o ≡ true
-      by_number None e = never (sym (ap (λ ns. is_some (nearest_number (index_in (λ d. d.methods) (λ m. same_called (record { name = r.name; signature = r.signature }, not is_instance) (called_of m)) tree) ns)) (none_searched r.name r.owner e)) ∙ h)
+      by_number None e = never (sym (ap (λ ns. is_some (nearest_number (index_in (λ d. d.methods) (λ m. same_call_identity (record { name = r.name; signature = r.signature }, not is_instance) (call_identity_of m)) tree) ns)) (none_searched r.name r.owner e)) ∙ h)
       by_number (Some n) e = refl
 
   -- ---- instructions

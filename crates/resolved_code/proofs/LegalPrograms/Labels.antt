@@ -34,14 +34,14 @@ module _ {K X : Type 0} (test : K → Bool) where
 abbrev has_label : List ℕ → Line → Bool
 has_label label line = list_any (same_text label) line.labels
 
-placed_from : (label : List ℕ) (i : ℕ) (lines : List Line) → option_and_then (slice_get (label_indices i lines)) (position_from (same_text label) 0 (flat_map (λ (line : Line). line.labels) lines)) ≡ position_from (has_label label) i lines
-placed_from label i [] = refl
-placed_from label i (line ∷ lines) =
+label_pc_from : (label : List ℕ) (i : ℕ) (lines : List Line) → option_and_then (slice_get (label_indices i lines)) (position_from (same_text label) 0 (flat_map (λ (line : Line). line.labels) lines)) ≡ position_from (has_label label) i lines
+label_pc_from label i [] = refl
+label_pc_from label i (line ∷ lines) =
     beside_many (same_text label) line.labels i (flat_map (λ (x : Line). x.labels) lines) (label_indices (i + 1) lines) ∙
-    ap (λ o. cond (has_label label line) (Some i) o) (placed_from label (i + 1) lines)
+    ap (λ o. cond (has_label label line) (Some i) o) (label_pc_from label (i + 1) lines)
 
-pub placed : (label : List ℕ) (lines : List Line) → option_and_then (slice_get (label_indices 0 lines)) (position_from (same_text label) 0 (flat_map (λ (line : Line). line.labels) lines)) ≡ pc_of label lines
-placed label lines = placed_from label 0 lines
+pub label_pc_is : (label : List ℕ) (lines : List Line) → option_and_then (slice_get (label_indices 0 lines)) (position_from (same_text label) 0 (flat_map (λ (line : Line). line.labels) lines)) ≡ pc_of label lines
+label_pc_is label lines = label_pc_from label 0 lines
 
 -- one more line
 label_indices_end : (i n : ℕ) (xs : List Line) (line : Line) → n ≡ i + length xs → label_indices i (xs ++ line ∷ []) ≡ label_indices i xs ++ map (λ label. n) line.labels

@@ -5,7 +5,7 @@ use Rattle.cil_model.specs.declared.trees.Tree.{Tree}
 use Rattle.cil_model.specs.Declarations.{Declaration}
 use Rattle.name_tables.specs.Numbers.{declarations, member_at}
 use Rattle.resolved_code.specs.declared.classes.ResolvedClass.{ResolvedClass}
-use Rattle.resolved_code.specs.Resolved.{AllAlike, AreResolved, IsResolvedClass, BothAlike}
+use Rattle.resolved_code.specs.ResolvedPrograms.{AllAlike, AreResolved, IsResolvedClass, BothAlike}
 
 pub alike_at : {X Y : Type 0} (R : X → Y → Type 0) (xs : List X) (ys : List Y) → AllAlike R xs ys → (index : ℕ) → BothAlike R (slice_get xs index) (slice_get ys index)
 alike_at R [] [] h index = tt

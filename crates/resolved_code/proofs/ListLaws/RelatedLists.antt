@@ -1,7 +1,7 @@
 -- Lists whose items are related, index by index: their lengths, and the item that is related to one.
 use Rattle.std.proofs.Common.{◌≡◌, ℕ, zero, suc, List, [], ◌∷◌, length, None, Some, slice_get, refl, sym, ap, subst}
 use Rattle.name_tables.proofs.NumberLaws.{none_is_some}
-use Rattle.resolved_code.specs.Resolved.{AllAlike}
+use Rattle.resolved_code.specs.ResolvedPrograms.{AllAlike}
 
 pub alike_length : {X Y : Type 0} (R : X → Y → Type 0) (xs : List X) (ys : List Y) → AllAlike R xs ys → length xs ≡ length ys
 alike_length R [] [] h = refl

@@ -17,7 +17,7 @@ use Rattle.name_tables.specs.Sameness.{MethodIdentity, identity_of}
 use Rattle.name_tables.specs.Numbers.{declarations, class_number, chain_numbers, method_found}
 use Rattle.name_tables.proofs.NumberLaws.{HasId, has_id, declared_at_none}
 use Rattle.resolved_code.proofs.Numbers.Classes.{number_equal}
-use Rattle.resolved_code.specs.VirtualSlots.{slot_filled_at, slot_over, slot_by_id, open_over, open_by_id, is_left_open, class_leaves_open, concrete_by_id}
+use Rattle.resolved_code.specs.VirtualSlots.{slot_filled_at, slot_from_base, slot_by_id, abstract_from_base, abstract_by_id, is_slot_abstract, class_has_abstract_slot, concrete_by_id}
 use Rattle.resolved_code.proofs.Numbers.Methods.{found_by_number, nothing_found}
 
 module _ (tree : Tree) where
@@ -62,7 +62,7 @@ module _ (tree : Tree) where
         by_number None e h =
             let P : Option Method → Type 0 = λ f. IsTied (option_map_or (slot_filled c (along cs)) f (along cs)) (slot_by_id tree k (numbers cs)) in subst P (sym (nothing_found tree k c e)) h
         by_number (Some n) e h =
-            let P : Option Method → Type 0 = λ f. IsTied (option_map_or (slot_filled c (along cs)) f (along cs)) (slot_over tree k n (slot_by_id tree k (numbers cs))) in
+            let P : Option Method → Type 0 = λ f. IsTied (option_map_or (slot_filled c (along cs)) f (along cs)) (slot_from_base tree k n (slot_by_id tree k (numbers cs))) in
             subst P (found_by_number tree k c n e) (tied_over c n (method_found tree k n) (along cs) (slot_by_id tree k (numbers cs)) e h)
 
     -- the test of one slot
@@ -82,16 +82,16 @@ module _ (tree : Tree) where
     filled_by c (Some m) true rest = refl
     filled_by c (Some m) false rest = refl
 
-    pub filled : (s : ClassName) (i : ℕ) → class_number tree s ≡ Some i → (cs : List ClassName) → is_filled_abstract (implementation_along tree k.name k.signature s cs) ≡ open_by_id tree k i (numbers cs)
+    pub filled : (s : ClassName) (i : ℕ) → class_number tree s ≡ Some i → (cs : List ClassName) → is_filled_abstract (implementation_along tree k.name k.signature s cs) ≡ abstract_by_id tree k i (numbers cs)
     filled s i e [] = refl
     filled s i e (c ∷ cs) = by_number (class_number tree c) refl (filled s i e cs) (tied (c ∷ cs))
       where
         rest : Option (ClassName × Method)
         rest = implementation_along tree k.name k.signature s cs
 
-        by_number : (o : Option ℕ) → class_number tree c ≡ o → is_filled_abstract (implementation_along tree k.name k.signature s cs) ≡ open_by_id tree k i (numbers cs) →
+        by_number : (o : Option ℕ) → class_number tree c ≡ o → is_filled_abstract (implementation_along tree k.name k.signature s cs) ≡ abstract_by_id tree k i (numbers cs) →
             IsTied (along (c ∷ cs)) (slot_by_id tree k (cons_option (class_number tree c) (numbers cs))) →
-            is_filled_abstract (implementation_along tree k.name k.signature s (c ∷ cs)) ≡ open_by_id tree k i (cons_option o (numbers cs))
+            is_filled_abstract (implementation_along tree k.name k.signature s (c ∷ cs)) ≡ abstract_by_id tree k i (cons_option o (numbers cs))
         by_number None g further h =
             let nothing : is_filled_abstract (implementation_along tree k.name k.signature s (c ∷ cs)) ≡ is_filled_abstract (implementation_along tree k.name k.signature s cs) =
             ap (λ f. is_filled_abstract (option_map_or (λ m. cond (same_options same_class (along (c ∷ cs)) (Some s)) (Some (c, m)) (implementation_along tree k.name k.signature s cs)) f (implementation_along tree k.name k.signature s cs))) (nothing_found tree k c g) in
@@ -102,13 +102,13 @@ module _ (tree : Tree) where
             filled_by c (method_declared tree k.name k.signature c) (same_options same_class (along (c ∷ cs)) (Some s)) (implementation_along tree k.name k.signature s cs) ∙
             ap (λ b. cond b (is_abstract_in (method_declared tree k.name k.signature c) (is_filled_abstract (implementation_along tree k.name k.signature s cs))) (is_filled_abstract (implementation_along tree k.name k.signature s cs))) one ∙
             ap (λ f. cond (option_map_or (λ x. x == i) (slot_by_id tree k (n ∷ numbers cs)) false) (is_abstract_in f (is_filled_abstract (implementation_along tree k.name k.signature s cs))) (is_filled_abstract (implementation_along tree k.name k.signature s cs))) (sym (found_by_number tree k c n g)) ∙
-            ap (λ b. open_over tree k n (option_map_or (λ x. x == i) (slot_by_id tree k (n ∷ numbers cs)) false) b) further
+            ap (λ b. abstract_from_base tree k n (option_map_or (λ x. x == i) (slot_by_id tree k (n ∷ numbers cs)) false) b) further
 
     -- the target of a class's method as seen from another
-    pub target_open : (d c : ClassName) → is_filled_abstract (class_target tree k.name k.signature d c) ≡ is_left_open tree k (chain_numbers tree d) (chain_numbers tree c)
+    pub target_open : (d c : ClassName) → is_filled_abstract (class_target tree k.name k.signature d c) ≡ is_slot_abstract tree k (chain_numbers tree d) (chain_numbers tree c)
     target_open d c = by_slot (along (chain_of tree c)) (slot_by_id tree k (chain_numbers tree c)) (tied (chain_of tree c))
       where
-        by_slot : (o : Option ClassName) (p : Option ℕ) → IsTied o p → is_filled_abstract (option_and_then (λ slot. implementation_along tree k.name k.signature slot (chain_of tree d)) o) ≡ option_map_or (λ slot. open_by_id tree k slot (chain_numbers tree d)) p false
+        by_slot : (o : Option ClassName) (p : Option ℕ) → IsTied o p → is_filled_abstract (option_and_then (λ slot. implementation_along tree k.name k.signature slot (chain_of tree d)) o) ≡ option_map_or (λ slot. abstract_by_id tree k slot (chain_numbers tree d)) p false
         by_slot None None h = refl
         by_slot (Some s) (Some i) h = filled s i h (chain_of tree d)
         by_slot None (Some i) h = absurd h
@@ -136,23 +136,23 @@ module _ (tree : Tree) where
   abbrev leaves : ClassName → ClassName → Method → Bool
   leaves d c m = is_virtual m.kind && is_filled_abstract (class_target tree m.name m.signature d c)
 
-  same_leaves : (d c : ClassName) (ms : List Method) → list_any (leaves d c) ms ≡ list_any (λ (m : Method). is_virtual m.kind && is_left_open tree (identity_of m) (chain_numbers tree d) (chain_numbers tree c)) ms
-  same_leaves d c ms = list_any_congr (leaves d c) (λ (m : Method). is_virtual m.kind && is_left_open tree (identity_of m) (chain_numbers tree d) (chain_numbers tree c)) (λ m. ap (λ b. is_virtual m.kind && b) (target_open (identity_of m) d c)) ms
+  same_leaves : (d c : ClassName) (ms : List Method) → list_any (leaves d c) ms ≡ list_any (λ (m : Method). is_virtual m.kind && is_slot_abstract tree (identity_of m) (chain_numbers tree d) (chain_numbers tree c)) ms
+  same_leaves d c ms = list_any_congr (leaves d c) (λ (m : Method). is_virtual m.kind && is_slot_abstract tree (identity_of m) (chain_numbers tree d) (chain_numbers tree c)) (λ m. ap (λ b. is_virtual m.kind && b) (target_open (identity_of m) d c)) ms
 
-  open_along : (d : ClassName) (cs : List ClassName) → list_any (λ c. list_any (leaves d c) (methods_declared tree c)) cs ≡ list_any (class_leaves_open tree (chain_numbers tree d)) (filter_map (class_number tree) cs)
+  open_along : (d : ClassName) (cs : List ClassName) → list_any (λ c. list_any (leaves d c) (methods_declared tree c)) cs ≡ list_any (class_has_abstract_slot tree (chain_numbers tree d)) (filter_map (class_number tree) cs)
   open_along d [] = refl
   open_along d (c ∷ cs) = by_number (class_number tree c) refl (open_along d cs)
     where
-      by_number : (o : Option ℕ) → class_number tree c ≡ o → list_any (λ x. list_any (leaves d x) (methods_declared tree x)) cs ≡ list_any (class_leaves_open tree (chain_numbers tree d)) (filter_map (class_number tree) cs) →
-          list_any (λ x. list_any (leaves d x) (methods_declared tree x)) (c ∷ cs) ≡ list_any (class_leaves_open tree (chain_numbers tree d)) (cons_option o (filter_map (class_number tree) cs))
+      by_number : (o : Option ℕ) → class_number tree c ≡ o → list_any (λ x. list_any (leaves d x) (methods_declared tree x)) cs ≡ list_any (class_has_abstract_slot tree (chain_numbers tree d)) (filter_map (class_number tree) cs) →
+          list_any (λ x. list_any (leaves d x) (methods_declared tree x)) (c ∷ cs) ≡ list_any (class_has_abstract_slot tree (chain_numbers tree d)) (cons_option o (filter_map (class_number tree) cs))
       by_number None e further =
           ap (λ z. list_any (leaves d c) (listed_by (λ x. x.methods) z) || list_any (λ x. list_any (leaves d x) (methods_declared tree x)) cs) (declared_at_none tree c e) ∙ further
       by_number (Some n) e further =
           let found : (x : Declaration) × (declaration_of tree c ≡ Some x) × (slice_get (declarations tree) n ≡ Some (c, x)) = subst (HasId tree c) e (has_id tree c) in
-          let here : list_any (leaves d c) (methods_declared tree c) ≡ class_leaves_open tree (chain_numbers tree d) n =
-          same_leaves d c (methods_declared tree c) ∙ ap (λ z. list_any (λ (m : Method). is_virtual m.kind && is_left_open tree (identity_of m) (chain_numbers tree d) (chain_numbers tree c)) (listed_by (λ x. x.methods) z)) found.1 ∙
-          sym (ap (λ z. option_map_or (λ (y : ClassName × Declaration). list_any (λ (m : Method). is_virtual m.kind && is_left_open tree (identity_of m) (chain_numbers tree d) (chain_numbers tree y.0)) y.1.methods) z false) found.2) in
-          ap (λ b. b || list_any (λ x. list_any (leaves d x) (methods_declared tree x)) cs) here ∙ ap (λ b. class_leaves_open tree (chain_numbers tree d) n || b) further
+          let here : list_any (leaves d c) (methods_declared tree c) ≡ class_has_abstract_slot tree (chain_numbers tree d) n =
+          same_leaves d c (methods_declared tree c) ∙ ap (λ z. list_any (λ (m : Method). is_virtual m.kind && is_slot_abstract tree (identity_of m) (chain_numbers tree d) (chain_numbers tree c)) (listed_by (λ x. x.methods) z)) found.1 ∙
+          sym (ap (λ z. option_map_or (λ (y : ClassName × Declaration). list_any (λ (m : Method). is_virtual m.kind && is_slot_abstract tree (identity_of m) (chain_numbers tree d) (chain_numbers tree y.0)) y.1.methods) z false) found.2) in
+          ap (λ b. b || list_any (λ x. list_any (leaves d x) (methods_declared tree x)) cs) here ∙ ap (λ b. class_has_abstract_slot tree (chain_numbers tree d) n || b) further
 
-  pub abstract_slot : (d : ClassName) → list_any (class_leaves_open tree (chain_numbers tree d)) (chain_numbers tree d) ≡ has_abstract_slot tree d
+  pub abstract_slot : (d : ClassName) → list_any (class_has_abstract_slot tree (chain_numbers tree d)) (chain_numbers tree d) ≡ has_abstract_slot tree d
   abstract_slot d = sym (open_along d (chain_of tree d))

@@ -7,7 +7,7 @@ use Rattle.resolved_code.specs.declared.classes.ResolvedClass.{ResolvedClass}
 use Rattle.resolved_code.specs.declared.errors.ResolveError.{ResolveError}
 use Rattle.resolved_code.specs.declared.errors.ResolveError.TheVariants.{Unresolved, OutOfMemory}
 use Rattle.resolved_code.specs.Outcomes.{Gives}
-use Rattle.resolved_code.specs.Resolved.{AreResolved}
+use Rattle.resolved_code.specs.ResolvedPrograms.{AreResolved}
 use Rattle.resolved_code.specs.Rules.{classes_rule}
 use Rattle.resolved_code.proofs.InstructionOperations.ResolvedNames.{classes_refine}
 use Rattle.resolved_code.proofs.LegalPrograms.FoundNames.{classes_found}

@@ -13,7 +13,7 @@ use Rattle.interpreter.specs.threads_monitors.Frames.{Frames}
 use Rattle.interpreter.specs.threads_monitors.Roots.{roots}
 use Rattle.collector.specs.phase_handshake.Handshakes.{Handshakes, IsClose}
 use Rattle.collector.specs.phase_handshake.declared.posts.Seat.{Seat}
-use Rattle.collector.specs.Holding.{IsOnTime, may_hold, passes}
+use Rattle.collector.specs.Holds.{IsOnTime, may_hold, passes}
 use Rattle.collector.specs.Soundness.{IsListed, IsSoundHeap}
 use Rattle.collector.specs.declared.progress.Progress.{Progress}
 use Rattle.collector.proofs.ThreadReferences.LiveValues.{may_hold_then, IsShort, held_by, held_is_live, is_reference, live_value_is_there, reference_again}
@@ -38,7 +38,7 @@ use Rattle.interpreter.specs.object_memory.declared.monitors.Monitor.{Monitor}
 use Rattle.interpreter.specs.object_memory.declared.values.Value.TheVariants.{Ref}
 use Rattle.interpreter.specs.object_memory.Spaces.{forward, is_old}
 use Rattle.interpreter.specs.object_memory.Values.{value_word}
-use Rattle.interpreter.specs.instructions.barriers.Barriers.{compares_forwards, forward_value, is_other_alike, is_storable, is_value_there, is_word_storable, reaches_both, stored_int, stored_monitor, stored_value}
+use Rattle.interpreter.specs.instructions.barriers.Barriers.{compares_forwards, forward_value, other_has_slot, is_storable, is_value_in_heap, is_word_storable, reaches_both, stored_int, stored_monitor, stored_value}
 use Rattle.interpreter.proofs.object_memory.TwoSpaces.TwoBlocks.{either, no_literal}
 use Rattle.collector.specs.References.{holds_reference, is_reference_value}
 use Rattle.collector.specs.Phases.{is_live, is_of_cycle}
@@ -212,14 +212,14 @@ module _ (tree : Tree) (legal : IsLegal tree) (words : ℕ) (h : Handshakes) (p 
   -- ---- what can be stored
 
   module _ (slot : ℕ) (inside : slot < length c.slots) where
-    alike : is_other_alike o a slot ≡ true
+    alike : other_has_slot o a slot ≡ true
     alike = other_is_alike tree h.posted_phase h.has_round words p o fits.sound a c slot lies inside
 
     pub collected_word_storable : is_word_storable seat.phase o a slot ≡ true
     collected_word_storable = word_is_storable tree h.posted_phase h.has_round words p o a c slot inside seat.phase (beside_heap tree words h p seat close first time all name o ss s fits) held
 
     module _ (v : Value) (u : StateValue) (is : IsValue name v u) where
-      there : is_value_there o v ≡ true
+      there : is_value_in_heap o v ≡ true
       there =
           live_value_is_there h.posted_phase o v
           (value_weakens (passes (held_by seat.phase h.posted_phase) h.posted_phase o.spaces) (is_live h.posted_phase o.spaces) (λ b. held_is_live seat.phase h.posted_phase o.spaces b) v (value_held tree words h p seat close first time all name o ss s fits v u is))
@@ -235,10 +235,10 @@ module _ (tree : Tree) (legal : IsLegal tree) (words : ℕ) (h : Handshakes) (p 
       collected_storable = by_phase seat.phase refl
         where
           by_phase : (q : Phase) → seat.phase ≡ q → is_storable q o a slot v ≡ true
-          by_phase Mark e = both_true o.spaces.is_open (is_value_there o v) (open_in_mark e) there
-          by_phase Copy e = both_true (is_value_there o v) (is_other_alike o a slot) there alike
-          by_phase PreFlip e = both_true (is_value_there o v) (is_other_alike o a slot) there alike
-          by_phase HeapFlip e = both_true (is_value_there o v) (is_other_alike o a slot) there alike
+          by_phase Mark e = both_true o.spaces.is_open (is_value_in_heap o v) (open_in_mark e) there
+          by_phase Copy e = both_true (is_value_in_heap o v) (other_has_slot o a slot) there alike
+          by_phase PreFlip e = both_true (is_value_in_heap o v) (other_has_slot o a slot) there alike
+          by_phase HeapFlip e = both_true (is_value_in_heap o v) (other_has_slot o a slot) there alike
           by_phase ThreadFlip e = alike
           by_phase _ e = refl
 
@@ -368,7 +368,7 @@ collected tree legal words h p seat close rounds first time all = record {
   Fits = FitsCollected tree words h p seat first all;
   reads = λ name o ss s fits typed. collected_reads tree words h p seat first all name o ss s fits legal typed;
   statics = λ name o ss s fits. collected_statics tree words h p seat first all name o ss s fits rounds;
-  beside = λ name o ss s s' fits same. collected_beside tree words h p seat first all name o ss s fits s' same;
+  with_objects = λ name o ss s s' fits same. collected_beside tree words h p seat first all name o ss s fits s' same;
   comparable = λ name o ss s fits a b is is'. collected_comparable tree words h p seat close first all name o ss s fits a b is is';
   same = λ name o ss s fits a b n k is is'. collected_same tree words h p seat close first all name o ss s fits a b n k is is';
   same_null = λ name o ss s fits. collected_same_null tree words h p seat close first all name o ss s fits;

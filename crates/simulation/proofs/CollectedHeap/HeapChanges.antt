@@ -24,7 +24,7 @@ use Rattle.collector.specs.phase_handshake.declared.posts.Seat.{Seat}
 use Rattle.collector.specs.References.{ValuePasses, is_permanent}
 use Rattle.collector.specs.Phases.{is_live, is_marked_address}
 use Rattle.collector.specs.Soundness.{IsSoundHeap}
-use Rattle.collector.specs.Holding.{AnyLive, HasNotBegun, Hold, MarkedOnly, NewOnly, hold_of, is_flipping, is_marking, passes, static_hold_of, static_may_hold, IsOnTime}
+use Rattle.collector.specs.Holds.{AnyLive, HasNotBegun, Hold, MarkedOnly, NewOnly, hold_of, is_flipping, is_marking, passes, static_hold_of, static_may_hold, IsOnTime}
 use Rattle.collector.specs.declared.progress.Progress.{Progress}
 use Rattle.collector.proofs.ThreadReferences.AfterStores.{alike_not_begun, marked_first}
 use Rattle.collector.proofs.ThreadReferences.MarkingPhases.{static_loads}

@@ -17,7 +17,7 @@ use Rattle.interpreter.specs.object_memory.Cells.{Cell, size, store_monitor, sto
 use Rattle.interpreter.specs.object_memory.Objects.{Objects, object_cell}
 use Rattle.interpreter.specs.object_memory.Spaces.{Spaces, room_for, birth_space_of, room_at}
 use Rattle.interpreter.specs.object_memory.Values.{value_word}
-use Rattle.interpreter.specs.instructions.barriers.Barriers.{object_born, stored_int, stored_monitor, stored_static, stored_value, can_bear}
+use Rattle.interpreter.specs.instructions.barriers.Barriers.{object_born, stored_int, stored_monitor, stored_static, stored_value, can_allocate}
 use Rattle.interpreter.proofs.object_memory.TwoSpaces.TwoBlocks.{slot_keeps}
 use Rattle.reference_machine.specs.TypedStates.{IsTyped}
 use Rattle.collector.specs.Phases.{is_before_copies}
@@ -131,8 +131,8 @@ module _ (tree : Tree) (base : MemoryModel tree) (start : Objects) (first : List
     Fits = FitsInRoom;
     reads = λ name o ss s h typed. base.reads name o ss s h.fits typed;
     statics = λ name o ss s h. base.statics name o ss s h.fits;
-    beside = λ name o ss s s' h same. record {
-      fits = base.beside name o ss s s' h.fits same;
+    with_objects = λ name o ss s s' h same. record {
+      fits = base.with_objects name o ss s s' h.fits same;
       room = keeps_more tree base.phase start first o o s.objects s'.objects (uses_itself o.spaces) (λ early. leaves_itself o.spaces) (ap (words_of_all tree) same.objects) h.room;
     };
     comparable = λ name o ss s h a b is is'. base.comparable name o ss s h.fits a b is is';
@@ -191,7 +191,7 @@ module _ (o : Objects) where
 -- ---- the room
 
 -- in each phase in which a thread can bear
-room_is : (own : Phase) (o : Objects) → can_bear own o ≡ true → room (spaces_of o) own ≡ room_for own o.spaces
+room_is : (own : Phase) (o : Objects) → can_allocate own o ≡ true → room (spaces_of o) own ≡ room_for own o.spaces
 room_is Idle o can = refl
 room_is Mark o can = refl
 room_is ThreadFlip o can = open_room o can
@@ -204,10 +204,10 @@ room_is _ o can = ap (λ w. min (free_words o.spaces.old) w) (open_room o can)
 
 module _ (c : MachineState) (sound : IsSound c) (t : ℕ) where
   -- each thread can, and one without a seat is between cycles
-  can_bear_there : can_bear (own_phase c.posts t) c.objects ≡ true
+  can_bear_there : can_allocate (own_phase c.posts t) c.objects ≡ true
   can_bear_there = by_seat (seat_of c.posts t) refl
     where
-      by_seat : (o : Option Seat) → seat_of c.posts t ≡ o → can_bear (option_map_or (λ (s : Seat). s.phase) o Idle) c.objects ≡ true
+      by_seat : (o : Option Seat) → seat_of c.posts t ≡ o → can_allocate (option_map_or (λ (s : Seat). s.phase) o Idle) c.objects ≡ true
       by_seat None none = refl
       by_seat (Some seat) is =
           can_bear_near c.tree seat.phase c.posts.posted_phase (near_of_close c.posts seat (sound.seated.close.phases t seat is)) c.posts.has_round c.limits.max_words c.progress c.objects (sound.on_time t seat is) sound.heap

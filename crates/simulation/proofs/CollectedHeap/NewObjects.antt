@@ -18,14 +18,14 @@ use Rattle.interpreter.specs.object_memory.declared.values.Value.{Value}
 use Rattle.interpreter.specs.object_memory.Cells.{Cell, cell_in, literal}
 use Rattle.interpreter.specs.object_memory.Objects.{Objects, object_cell}
 use Rattle.interpreter.specs.object_memory.Spaces.{Spaces, address_at, birth_space_of, give_birth, forward, other_of, room_for}
-use Rattle.interpreter.specs.instructions.barriers.Barriers.{can_bear, object_born}
+use Rattle.interpreter.specs.instructions.barriers.Barriers.{can_allocate, object_born}
 use Rattle.interpreter.proofs.object_memory.TwoSpaces.TwoBlocks.{new_is_cell, no_literal, old_is_cell, are_distinct}
 use Rattle.collector.specs.phase_handshake.Handshakes.{Handshakes, IsClose}
 use Rattle.collector.specs.phase_handshake.declared.posts.Seat.{Seat}
 use Rattle.collector.specs.References.{is_permanent}
 use Rattle.collector.specs.Phases.{is_live, is_marked_old, is_new, is_marked_cell}
 use Rattle.collector.specs.Soundness.{IsSoundHeap}
-use Rattle.collector.specs.Holding.{AnyLive, Hold, IsOnTime, MarkedOnly, NewOnly, hold_of, passes, static_hold_of, static_may_hold}
+use Rattle.collector.specs.Holds.{AnyLive, Hold, IsOnTime, MarkedOnly, NewOnly, hold_of, passes, static_hold_of, static_may_hold}
 use Rattle.collector.specs.declared.progress.Progress.{Progress}
 use Rattle.collector.proofs.Births.NewCells.{IsBirth as IsBornCell, IsEmpty, bears_two}
 use Rattle.collector.proofs.Copies.VisibleCopies.{has_words}
@@ -95,7 +95,7 @@ module _ (tree : Tree) (words : ℕ) (h : Handshakes) (p : Progress) (seat : Sea
   time_now = fits.on_time seat.phase time
 
   -- the thread can bear
-  pub collected_bears : can_bear seat.phase o ≡ true
+  pub collected_bears : can_allocate seat.phase o ≡ true
   collected_bears = can_bear_near tree seat.phase h.posted_phase near h.has_round words p o time_now fits.sound
 
   module _ (k : Kind) (count : ℕ) (contents : Contents) (contents_refine : (names : Names) → IsOfContents tree names k (replicate count 0) contents None)

@@ -18,7 +18,7 @@ use Rattle.interpreter.specs.instructions.barriers.Barriers.{forward_value, obje
 use Rattle.interpreter.proofs.object_memory.Blocks.{used_in, used_last}
 use Rattle.interpreter.proofs.object_memory.Rooms.{size-empty}
 use Rattle.interpreter.proofs.object_memory.TwoSpaces.TwoBlocks.{slot_keeps}
-use Rattle.collector.specs.Marking.{with_all_marked}
+use Rattle.collector.specs.MarkSteps.{with_all_marked}
 use Rattle.collector.proofs.Births.BirthSoundness.{granted}
 use Rattle.collector.proofs.HeapStores.ReachedCopies.{changed_by}
 

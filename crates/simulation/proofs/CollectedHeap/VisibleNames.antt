@@ -23,7 +23,7 @@ use Rattle.collector.specs.phase_handshake.declared.posts.Seat.{Seat}
 use Rattle.collector.specs.References.{SlotsPass, ValuePasses, is_permanent, reference_in}
 use Rattle.collector.specs.Phases.{is_live, is_live_object, is_marked_old, is_new, is_new_address}
 use Rattle.collector.specs.Soundness.{IsSoundHeap}
-use Rattle.collector.specs.Holding.{AnyLive, Hold, IsOnTime, MarkedOnly, NewOnly, hold_of, passes, static_may_hold, is_flipping}
+use Rattle.collector.specs.Holds.{AnyLive, Hold, IsOnTime, MarkedOnly, NewOnly, hold_of, passes, static_may_hold, is_flipping}
 use Rattle.collector.specs.declared.progress.Progress.{Progress}
 use Rattle.collector.proofs.ThreadReferences.LiveValues.{held_by, may_hold_is_held, reference_again, held_is_new, live_is_there}
 use Rattle.collector.proofs.Marks.MarksOfStores.{Grows, grows_itself}
@@ -284,8 +284,8 @@ module _ (tree : Tree) (words : ℕ) (h : Handshakes) (p : Progress) (seat : Sea
   abbrev m : Spaces
   m = o.spaces
 
-  beside : IsBeside seat.phase h.posted_phase
-  beside = close_is_beside h seat close
+  with_objects : IsBeside seat.phase h.posted_phase
+  with_objects = close_is_beside h seat close
 
   -- ---- what can be compared
 
@@ -321,7 +321,7 @@ module _ (tree : Tree) (words : ℕ) (h : Handshakes) (p : Progress) (seat : Sea
         let live = named_live tree words h p seat first all name o ss s fits a.number n is in
         let live' = named_live tree words h p seat first all name o ss s fits b.number k is' in
         let late = twins_late tree h.posted_phase h.has_round words p m fits.sound a.number b.number twins live live' in
-        let flipped = flipped_beside seat.phase h.posted_phase beside plain late in
+        let flipped = flipped_beside seat.phase h.posted_phase with_objects plain late in
         elim (twins_either tree h.posted_phase h.has_round words p m fits.sound a.number b.number twins) [
           | inl copies ↦
               old_is_not_new tree h.posted_phase h.has_round words p m fits.sound a b copies
@@ -335,7 +335,7 @@ module _ (tree : Tree) (words : ℕ) (h : Handshakes) (p : Progress) (seat : Sea
     by_forwards : compares_forwards seat.phase ≡ true → ((forward m a).number == (forward m b).number) ≡ same_object n k
     by_forwards forwards =
         same_tests ((forward m a).number == (forward m b).number) (same_object n k)
-        (λ e. elim (same_forward tree h.posted_phase h.has_round words p m fits.sound (early_beside seat.phase h.posted_phase beside forwards) a b (address_is (forward m a) (forward m b) (eqb-true (forward m a).number (forward m b).number e))) [
+        (λ e. elim (same_forward tree h.posted_phase h.has_round words p m fits.sound (early_beside seat.phase h.posted_phase with_objects forwards) a b (address_is (forward m a) (forward m b) (eqb-true (forward m a).number (forward m b).number e))) [
           | inl same ↦ subst (λ x. same_object n x ≡ true) (one_name same) (same_object_itself n)
           | inr twins ↦ subst (λ x. same_object n x ≡ true) (twin_name twins) (same_object_itself n)
         ])

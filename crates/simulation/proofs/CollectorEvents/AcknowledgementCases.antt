@@ -5,10 +5,10 @@ use Rattle.interpreter.specs.cil_model.declared.phases.Phase.TheVariants.{Thread
 use Rattle.interpreter.specs.object_memory.Objects.{Objects}
 use Rattle.interpreter.specs.threads_monitors.declared.threads.Thread.{Thread}
 use Rattle.interpreter.proofs.cil_model.SameLaws.{never}
-use Rattle.collector.specs.Holding.{is_marking}
+use Rattle.collector.specs.Holds.{is_marking}
 use Rattle.collector.specs.phase_handshake.Handshakes.{Handshakes, acknowledge_phase, is_open_to, is_phase, seat_after, seat_of}
 use Rattle.collector.specs.phase_handshake.declared.posts.Seat.{Seat}
-use Rattle.simulation.specs.Collecting.{answers_round, flips_frames, objects_after, threads_after, with_acknowledgement, with_flipped, with_thread_marked}
+use Rattle.simulation.specs.CollectorSteps.{answers_round, flips_frames, objects_after, threads_after, with_acknowledgement, with_flipped, with_thread_marked}
 use Rattle.simulation.specs.MachineStates.{MachineState}
 
 -- the posts once a thread with this seat has answered

@@ -21,14 +21,14 @@ use Rattle.interpreter.specs.threads_monitors.declared.threads.ThreadStatus.{Thr
 use Rattle.interpreter.specs.threads_monitors.declared.threads.ThreadStatus.TheVariants.{Live, Ended}
 use Rattle.interpreter.specs.threads_monitors.declared.threads.Thread.{Thread}
 use Rattle.interpreter.proofs.cil_model.Lists.{none_is_some, set_is_there}
-use Rattle.collector.specs.Marking.{with_all_marked}
+use Rattle.collector.specs.MarkSteps.{with_all_marked}
 use Rattle.collector.specs.phase_handshake.Handshakes.{Handshakes, is_phase, IsClose, is_open_to, phase_number, seat_after, seat_of}
 use Rattle.collector.proofs.phase_handshake.Closeness.{same_phase, answered_close}
 use Rattle.collector.proofs.Copies.VisibleCopies.{has_words, forward_is_new, has_copies}
 use Rattle.collector.proofs.Marks.MarkChanges.{AreDarker, IsDarker, stays_there, AreDarker-same}
 use Rattle.collector.proofs.Marks.MarkedHeaps.{AreDarker-with_all_marked, HasNotBegun-with_all_marked, IsSoundHeap-with_all_marked, with_all_marked-noted, with_all_marked-pass}
 use Rattle.simulation.specs.Agreement.{Agree}
-use Rattle.simulation.specs.Collecting.{status_flipped, thread_flipped, with_acknowledgement, with_flipped, with_thread_marked}
+use Rattle.simulation.specs.CollectorSteps.{status_flipped, thread_flipped, with_acknowledgement, with_flipped, with_thread_marked}
 use Rattle.simulation.specs.MachineStates.{MachineState}
 use Rattle.simulation.specs.Sound.{IsSound, AreSeated}
 use Rattle.simulation.specs.Refines.{Names, AreTwins, IsValue, int32, int64, native, null_reference, reference, IsOfContents, IsMonitor, IsCell, IsBornAt, IsHeap, IsObject, IsFrame, AreFrames, StatusRefines, IsThread, Represents, RefinesUnder}
@@ -48,7 +48,7 @@ use Rattle.interpreter.proofs.cil_model.SameLaws.{never}
 use Rattle.collector.specs.References.{ValuePasses}
 use Rattle.collector.specs.Phases.{is_live as is_live_address, is_marked_address, is_new_address}
 use Rattle.collector.specs.Soundness.{IsListed, IsSoundHeap}
-use Rattle.collector.specs.Holding.{HasNotBegun, IsOnTime, is_flipping, is_marking, may_hold, static_may_hold}
+use Rattle.collector.specs.Holds.{HasNotBegun, IsOnTime, is_flipping, is_marking, may_hold, static_may_hold}
 use Rattle.collector.specs.phase_handshake.declared.posts.Seat.{Seat}
 use Rattle.collector.proofs.ThreadReferences.MarkingPhases.{held_again, may_hold_marked, phase_held, stays_held, stays_held-static}
 use Rattle.collector.proofs.Addresses.Tests.{value_weakens}

@@ -4,14 +4,14 @@ use Rattle.interpreter.specs.cil_model.declared.phases.Phase.{Phase}
 use Rattle.interpreter.specs.cil_model.declared.phases.Phase.TheVariants.{Mark}
 use Rattle.interpreter.specs.object_memory.declared.addresses.Addr.{Addr}
 use Rattle.interpreter.specs.object_memory.declared.values.Value.TheVariants.{Ref}
-use Rattle.collector.specs.Holding.{static_may_hold}
-use Rattle.collector.specs.Marking.{is_closed}
+use Rattle.collector.specs.Holds.{static_may_hold}
+use Rattle.collector.specs.MarkSteps.{is_closed}
 use Rattle.collector.specs.Phases.{is_marked_address}
 use Rattle.collector.proofs.ThreadReferences.MarkingPhases.{closed_held, closed_held-static}
 use Rattle.collector.proofs.PhaseChanges.Rounds.{is_closed-means}
 use Rattle.collector.proofs.Addresses.Tests.{marked_has_cell}
 use Rattle.simulation.specs.MachineStates.{MachineState}
-use Rattle.simulation.specs.Reached.{IsReached, from_frame, from_slot, from_static}
+use Rattle.simulation.specs.ReachedStates.{IsReached, from_frame, from_slot, from_static}
 use Rattle.simulation.specs.Sound.{IsSound}
 use Rattle.simulation.proofs.Representation.NormalContents.{has_seat, sound_is_held}
 

@@ -10,12 +10,12 @@ use Rattle.interpreter.specs.object_memory.declared.values.Value.{Value}
 use Rattle.interpreter.specs.object_memory.Objects.{Objects}
 use Rattle.interpreter.specs.object_memory.Spaces.{close_cycle}
 use Rattle.collector.specs.phase_handshake.Handshakes.{all_answered, all_seen}
-use Rattle.collector.specs.Copying.{copied_on, looked_on}
-use Rattle.collector.specs.Flips.{cleared_on, flipped_on}
-use Rattle.collector.specs.Marking.{is_closed, marked_on, statics_scanned}
+use Rattle.collector.specs.CopySteps.{next_copy_step, next_shell_step}
+use Rattle.collector.specs.Flips.{next_clear_step, next_flip_step}
+use Rattle.collector.specs.MarkSteps.{is_closed, next_mark_step, statics_scanned}
 use Rattle.collector.specs.Phases.{is_of_cycle}
 use Rattle.collector.specs.declared.progress.Progress.{Progress}
-use Rattle.simulation.specs.Collecting.{clear_object, collect, cycle_ended, flip_values, mark_object, next_posted, round_posted, rounds, work, do_work}
+use Rattle.simulation.specs.CollectorSteps.{clear_object, collect, cycle_ended, flip_values, mark_object, next_posted, round_posted, rounds, work, do_work}
 use Rattle.simulation.specs.MachineStates.{MachineState}
 use Rattle.simulation.proofs.CollectorEvents.Soundness.{posting}
 
@@ -55,16 +55,16 @@ module _ (c : MachineState) where
 
   work_is : (x : Phase) → IsCollected (posting x c) (work x (posting x c))
   work_is Idle = works (work Idle (posting Idle c)).0 refl
-  work_is Mark = either_is (posting Mark c) c.progress.scanned_statics (mark_object (posting Mark c) (marked_on c.tree c.progress c.objects))
+  work_is Mark = either_is (posting Mark c) c.progress.scanned_statics (mark_object (posting Mark c) (next_mark_step c.tree c.progress c.objects))
       (record (posting Mark c) { progress = (statics_scanned c.progress c.objects c.statics).0; objects = (statics_scanned c.progress c.objects c.statics).1 }, Worked)
-      (marked_is (marked_on c.tree c.progress c.objects))
+      (marked_is (next_mark_step c.tree c.progress c.objects))
       (works (record (posting Mark c) { progress = (statics_scanned c.progress c.objects c.statics).0; objects = (statics_scanned c.progress c.objects c.statics).1 }) refl)
-  work_is Allocate = worked_is Allocate refl (looked_on c.progress c.objects) (works (next_posted (posting Allocate c)).0 refl)
-  work_is Copy = worked_is Copy refl (copied_on c.tree c.progress c.objects) (works (next_posted (posting Copy c)).0 refl)
+  work_is Allocate = worked_is Allocate refl (next_shell_step c.progress c.objects) (works (next_posted (posting Allocate c)).0 refl)
+  work_is Copy = worked_is Copy refl (next_copy_step c.tree c.progress c.objects) (works (next_posted (posting Copy c)).0 refl)
   work_is PreFlip = works (next_posted (posting PreFlip c)).0 refl
-  work_is HeapFlip = flipped_is (flipped_on c.progress c.objects c.statics)
+  work_is HeapFlip = flipped_is (next_flip_step c.progress c.objects c.statics)
   work_is ThreadFlip = works (next_posted (posting ThreadFlip c)).0 refl
-  work_is Reclaim = cleared_is (cleared_on c.progress c.objects)
+  work_is Reclaim = cleared_is (next_clear_step c.progress c.objects)
 
   -- each event is one of the three
   pub collected_is : IsCollected c (collect c)

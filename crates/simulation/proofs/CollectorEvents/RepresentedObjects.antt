@@ -19,22 +19,22 @@ use Rattle.interpreter.specs.object_memory.Spaces.{Spaces, clear, first_of, foun
 use Rattle.interpreter.specs.instructions.barriers.Barriers.{forward_value}
 use Rattle.collector.specs.Phases.{is_live, is_read}
 use Rattle.collector.specs.Soundness.{IsSoundHeap}
-use Rattle.collector.specs.Marking.{is_closed, marked_on, statics_scanned}
-use Rattle.collector.specs.Copying.{copied_on, looked_on}
-use Rattle.collector.specs.Flips.{cleared_at, cleared_on, flip_step, flipped_on, retire_old}
-use Rattle.collector.specs.Holding.{AnyLive}
+use Rattle.collector.specs.MarkSteps.{is_closed, next_mark_step, statics_scanned}
+use Rattle.collector.specs.CopySteps.{next_copy_step, next_shell_step}
+use Rattle.collector.specs.Flips.{clear_step_at, next_clear_step, flip_step, next_flip_step, retire_old}
+use Rattle.collector.specs.Holds.{AnyLive}
 use Rattle.collector.specs.declared.progress.Progress.{Progress}
 use Rattle.collector.specs.phase_handshake.Handshakes.{all_answered, all_seen}
 use Rattle.simulation.specs.Agreement.{Agree}
 use Rattle.simulation.specs.MachineStates.{MachineState}
 use Rattle.simulation.specs.Sound.{IsSound}
-use Rattle.simulation.specs.Collecting.{clear_object, collect, flip_values, mark_object, next_posted, initial_words, round_posted, rounds, work, do_work}
+use Rattle.simulation.specs.CollectorSteps.{clear_object, collect, flip_values, mark_object, next_posted, initial_words, round_posted, rounds, work, do_work}
 use Rattle.simulation.specs.Refines.{AreTwins, IsCell, IsHeap, IsMonitor, IsOfContents, IsValue, Names, RefinesUnder}
 use Rattle.interpreter.proofs.object_memory.TwoSpaces.TwoBlocks.{either, new_is_cell, old_is_cell}
 use Rattle.collector.proofs.Addresses.Tests.{is_new_live, live_is_late, live_is_read, never, new_has_cell, none_is_new}
 use Rattle.collector.proofs.Marks.MarkChanges.{AreDarker, AreDarker-same, stays_there}
 use Rattle.collector.proofs.Marks.MarkedHeaps.{AreDarker-with_all_marked, with_all_marked-literals}
-use Rattle.collector.proofs.Marks.MarkWork.{AreDarker-marked_on, marked_on-literals}
+use Rattle.collector.proofs.Marks.MarkWork.{AreDarker-next_mark_step, next_mark_step-literals}
 use Rattle.collector.proofs.Copies.AllocateWork.{looked_sound}
 use Rattle.collector.proofs.Copies.UnchangedReads.{copied_else, copied_live, copied_old, looked_else, looked_live, looked_new, looked_old}
 use Rattle.collector.proofs.Copies.CopyWork.{copied_sound}
@@ -166,42 +166,42 @@ darker_shows name o o' has_round tree words p sound literals darker = record {
 -- ---- Allocate and Copy
 
 -- an object gets its copy
-pub looked_shows : (name : Names) (o : Objects) (has_round : Bool) (tree : Tree) (words : ℕ) (p : Progress) → IsSoundHeap tree Allocate has_round words p o.spaces → IsNormal Allocate o.spaces name → ShowsNames name o (looked_on p o).1
+pub looked_shows : (name : Names) (o : Objects) (has_round : Bool) (tree : Tree) (words : ℕ) (p : Progress) → IsSoundHeap tree Allocate has_round words p o.spaces → IsNormal Allocate o.spaces name → ShowsNames name o (next_shell_step p o).1
 looked_shows name o has_round tree words p sound normal = record {
   literals = (looked_else p o).literals;
   shows = λ a n e c lies. by_block (record { number = a }) c (either o.spaces (record { number = a }) c lies);
   stay = λ a b n k ea eb twins. twins_early tree Allocate has_round words p o.spaces sound a b (normal.live a n ea) (normal.live b k eb) refl twins;
   were = λ a b n k ea eb twins.
-      twins_early tree Allocate has_round words (looked_on p o).0 (looked_on p o).1.spaces after a b (looked_live p o (record { number = a }) ∙ normal.live a n ea) (looked_live p o (record { number = b }) ∙ normal.live b k eb) refl twins;
+      twins_early tree Allocate has_round words (next_shell_step p o).0 (next_shell_step p o).1.spaces after a b (looked_live p o (record { number = a }) ∙ normal.live a n ea) (looked_live p o (record { number = b }) ∙ normal.live b k eb) refl twins;
 }
   where
-    after : IsSoundHeap tree Allocate has_round words (looked_on p o).0 (looked_on p o).1.spaces
+    after : IsSoundHeap tree Allocate has_round words (next_shell_step p o).0 (next_shell_step p o).1.spaces
     after = looked_sound tree has_round words p o sound
 
-    by_block : (x : Addr) (c : Cell) → (cell_in o.spaces.old x ≡ Some c) ⊎ (cell_in o.spaces.new x ≡ Some c) → (d : Cell) × (object_cell (looked_on p o).1 x ≡ Some d) × ShowsSame c d
+    by_block : (x : Addr) (c : Cell) → (cell_in o.spaces.old x ≡ Some c) ⊎ (cell_in o.spaces.new x ≡ Some c) → (d : Cell) × (object_cell (next_shell_step p o).1 x ≡ Some d) × ShowsSame c d
     by_block x c (inl old) =
         let d = looked_old p o x c old in
-        (d.0, old_is_cell (looked_on p o).1.spaces x d.0 d.1, record { kind = d.2.kind; slots = d.2.slots; monitor = d.2.monitor })
-    by_block x c (inr new) = (c, new_is_cell (looked_on p o).1.spaces after.blocks.spaces x c (looked_new p o tree has_round words sound x c new), shows_itself c)
+        (d.0, old_is_cell (next_shell_step p o).1.spaces x d.0 d.1, record { kind = d.2.kind; slots = d.2.slots; monitor = d.2.monitor })
+    by_block x c (inr new) = (c, new_is_cell (next_shell_step p o).1.spaces after.blocks.spaces x c (looked_new p o tree has_round words sound x c new), shows_itself c)
 
 -- a word is copied, of an object that isn't live yet
-pub copied_shows : (name : Names) (o : Objects) (has_round : Bool) (tree : Tree) (words : ℕ) (p : Progress) → IsSoundHeap tree Copy has_round words p o.spaces → IsNormal Copy o.spaces name → ShowsNames name o (copied_on tree p o).1
+pub copied_shows : (name : Names) (o : Objects) (has_round : Bool) (tree : Tree) (words : ℕ) (p : Progress) → IsSoundHeap tree Copy has_round words p o.spaces → IsNormal Copy o.spaces name → ShowsNames name o (next_copy_step tree p o).1
 copied_shows name o has_round tree words p sound normal = record {
   literals = (copied_else tree p o).literals;
   shows = λ a n e c lies. by_block (record { number = a }) c (normal.live a (Born n) e) (either o.spaces (record { number = a }) c lies);
   stay = λ a b n k ea eb twins. twins_early tree Copy has_round words p o.spaces sound a b (normal.live a n ea) (normal.live b k eb) refl twins;
   were = λ a b n k ea eb twins.
-      twins_early tree Copy has_round words (copied_on tree p o).0 (copied_on tree p o).1.spaces (copied_sound tree has_round words p o sound) a b
+      twins_early tree Copy has_round words (next_copy_step tree p o).0 (next_copy_step tree p o).1.spaces (copied_sound tree has_round words p o sound) a b
       (live (record { number = a }) ∙ normal.live a n ea) (live (record { number = b }) ∙ normal.live b k eb) refl twins;
 }
   where
-    live : (x : Addr) → is_live Copy (copied_on tree p o).1.spaces x ≡ is_live Copy o.spaces x
+    live : (x : Addr) → is_live Copy (next_copy_step tree p o).1.spaces x ≡ is_live Copy o.spaces x
     live x = copied_live tree p o has_round words sound x
 
     by_block : (x : Addr) (c : Cell) → is_live Copy o.spaces x ≡ true → (cell_in o.spaces.old x ≡ Some c) ⊎ (cell_in o.spaces.new x ≡ Some c)
-        → (d : Cell) × (object_cell (copied_on tree p o).1 x ≡ Some d) × ShowsSame c d
+        → (d : Cell) × (object_cell (next_copy_step tree p o).1 x ≡ Some d) × ShowsSame c d
     by_block x c live_x (inl old) =
-        (c, old_is_cell (copied_on tree p o).1.spaces x c (ap (λ s. cell_in s x) (copied_old tree p o has_round words sound) ∙ old), shows_itself c)
+        (c, old_is_cell (next_copy_step tree p o).1.spaces x c (ap (λ s. cell_in s x) (copied_old tree p o has_round words sound) ∙ old), shows_itself c)
     by_block x c live_x (inr new) = never (live_is_late o.spaces sound.blocks.spaces x c Copy new live_x)
 
 -- ---- HeapFlip
@@ -209,7 +209,7 @@ copied_shows name o has_round tree words p sound normal = record {
 module _ (name : Names) (o : Objects) (has_round : Bool) (tree : Tree) (words : ℕ) (p : Progress) (sound : IsSoundHeap tree HeapFlip has_round words p o.spaces) (normal : IsNormal HeapFlip o.spaces name) where
   -- a static field is flipped
   pub flipped_agree : (statics : List Value) (fields : List (FieldKey × StateValue)) → Agree (λ v (f : FieldKey × StateValue). IsValue name v f.1) statics fields
-      → Agree (λ v (f : FieldKey × StateValue). IsValue name v f.1) (flipped_on p o statics).1 fields
+      → Agree (λ v (f : FieldKey × StateValue). IsValue name v f.1) (next_flip_step p o statics).1 fields
   flipped_agree statics fields agree = by_field (slice_get statics p.flipped_statics) refl
     where
       by_field : (x : Option Value) → slice_get statics p.flipped_statics ≡ x → Agree (λ v (f : FieldKey × StateValue). IsValue name v f.1) (flip_step p o statics x).1 fields
@@ -220,7 +220,7 @@ module _ (name : Names) (o : Objects) (has_round : Bool) (tree : Tree) (words : 
 -- ---- Reclaim
 
 -- no monitor of a literal changes
-cleared_literals : (p : Progress) (o : Objects) (x : Option ℕ) → (cleared_at p o x).1.literals ≡ o.literals
+cleared_literals : (p : Progress) (o : Objects) (x : Option ℕ) → (clear_step_at p o x).1.literals ≡ o.literals
 cleared_literals p o None = refl
 cleared_literals p o (Some at) = by_cell (cell_in o.spaces.new (record { number = at }))
   where
@@ -230,29 +230,29 @@ cleared_literals p o (Some at) = by_cell (cell_in o.spaces.new (record { number 
     by_cell (Some c) = refl
 
 -- a new object is cleared
-pub cleared_shows_names : (name : Names) (o : Objects) (has_round : Bool) (tree : Tree) (words : ℕ) (p : Progress) → IsSoundHeap tree Reclaim has_round words p o.spaces → IsNormal Reclaim o.spaces name → ShowsNames name o (cleared_on p o).1
+pub cleared_shows_names : (name : Names) (o : Objects) (has_round : Bool) (tree : Tree) (words : ℕ) (p : Progress) → IsSoundHeap tree Reclaim has_round words p o.spaces → IsNormal Reclaim o.spaces name → ShowsNames name o (next_clear_step p o).1
 cleared_shows_names name o has_round tree words p sound normal = record {
   literals = cleared_literals p o (found_in is_noted o.spaces.new (o.spaces.new.start + p.cursor));
   shows = λ a n e c lies. cleared_shows tree has_round words p o sound (record { number = a }) c lies;
   stay = λ a b n k ea eb twins. twins_late tree Reclaim has_round words p o.spaces sound a b (normal.live a n ea) (normal.live b k eb) (λ c. refl) twins;
   were = λ a b n k ea eb twins.
-      twins_late tree Reclaim has_round words (cleared_on p o).0 (cleared_on p o).1.spaces (cleared_sound tree has_round words p o sound) a b
+      twins_late tree Reclaim has_round words (next_clear_step p o).0 (next_clear_step p o).1.spaces (cleared_sound tree has_round words p o sound) a b
       (cleared_stays tree has_round words p o sound AnyLive (record { number = a }) (normal.live a n ea)) (cleared_stays tree has_round words p o sound AnyLive (record { number = b }) (normal.live b k eb)) (λ c. refl) twins;
 }
 
 -- the new block is the only one then
-pub retired_shows : (name : Names) (o : Objects) (has_round : Bool) (tree : Tree) (words : ℕ) (p : Progress) → IsSoundHeap tree Reclaim has_round words p o.spaces → IsNormal Reclaim o.spaces name → (cleared_on p o).2 ≡ false → ShowsNames name o (retire_old o)
+pub retired_shows : (name : Names) (o : Objects) (has_round : Bool) (tree : Tree) (words : ℕ) (p : Progress) → IsSoundHeap tree Reclaim has_round words p o.spaces → IsNormal Reclaim o.spaces name → (next_clear_step p o).2 ≡ false → ShowsNames name o (retire_old o)
 retired_shows name o has_round tree words p sound normal over = record {
   literals = refl;
   shows = λ a n e c lies. (c, retired_cell o sound.blocks.spaces (record { number = a }) c (new_has_cell o.spaces sound.blocks.spaces (record { number = a }) c lies (normal.live a (Born n) e)), shows_itself c);
   stay = λ a b n k ea eb twins. twins_late tree Reclaim has_round words p o.spaces sound a b (normal.live a n ea) (normal.live b k eb) (λ c. refl) twins;
-  were = λ a b n k ea eb twins. twins_never (retire_old o).spaces (λ x. Unit {0}) bare a b tt tt twins;
+  were = λ a b n k ea eb twins. twins_never (retire_old o).spaces (λ x. Unit {0}) no_copy a b tt tt twins;
 }
   where
-    bare : (x y : Addr) → Unit {0} → Unit {0} → other_of (cell_in (retire_old o).spaces.old x) ≡ Some y → ⊥
-    bare x y _ _ e =
+    no_copy : (x y : Addr) → Unit {0} → Unit {0} → other_of (cell_in (retire_old o).spaces.old x) ≡ Some y → ⊥
+    no_copy x y _ _ e =
         let c = other_cell (cell_in (retire_old o).spaces.old x) y e in
-        absurd (none-some y (sym ((retired_sound tree has_round words p o sound over).copies.bare x c.0 c.1 refl) ∙ c.2))
+        absurd (none-some y (sym ((retired_sound tree has_round words p o sound over).copies.no_copy x c.0 c.1 refl) ∙ c.2))
 
 -- ---- each phase
 
@@ -289,10 +289,10 @@ module _ (name : Names) (c : MachineState) (s : State) where
   by_mark (p, o, false) works ends = ends
 
   marks_refine : IsSound (posting Mark c) → RefinesUnder name c s → RefinesUnder name (work Mark (posting Mark c)).0 s
-  marks_refine sound refines = either_refines name s c.progress.scanned_statics (mark_object (posting Mark c) (marked_on c.tree c.progress c.objects))
+  marks_refine sound refines = either_refines name s c.progress.scanned_statics (mark_object (posting Mark c) (next_mark_step c.tree c.progress c.objects))
       (record (posting Mark c) { progress = (statics_scanned c.progress c.objects c.statics).0; objects = (statics_scanned c.progress c.objects c.statics).1 }, Worked)
-      (λ scanned. by_mark (marked_on c.tree c.progress c.objects)
-      (dark_refines sound (marked_on c.tree c.progress c.objects).1 (marked_on-literals c.tree c.progress c.objects) (AreDarker-marked_on c.tree c.posts.has_round c.limits.max_words c.progress c.objects sound.heap) refines)
+      (λ scanned. by_mark (next_mark_step c.tree c.progress c.objects)
+      (dark_refines sound (next_mark_step c.tree c.progress c.objects).1 (next_mark_step-literals c.tree c.progress c.objects) (AreDarker-next_mark_step c.tree c.posts.has_round c.limits.max_words c.progress c.objects sound.heap) refines)
       (rounds_refine sound refines))
       (λ early. (let scans = dark_refines sound (statics_scanned c.progress c.objects c.statics).1 (with_all_marked-literals c.statics c.objects) (AreDarker-with_all_marked c.statics c.objects sound.heap.blocks.spaces) refines in
       record { memory = scans.memory; threads = scans.threads }))
@@ -309,7 +309,7 @@ module _ (name : Names) (c : MachineState) (s : State) where
   by_flip (p, statics, false) works refines = refines_next name (posting HeapFlip c) s (record { memory = refines.memory; threads = refines.threads })
 
   flips_refine : IsSound (posting HeapFlip c) → IsNormal HeapFlip c.objects.spaces name → RefinesUnder name c s → RefinesUnder name (work HeapFlip (posting HeapFlip c)).0 s
-  flips_refine sound normal refines = by_flip (flipped_on c.progress c.objects c.statics)
+  flips_refine sound normal refines = by_flip (next_flip_step c.progress c.objects c.statics)
       (record {
         memory = record {
           heap = refines.memory.heap;
@@ -326,16 +326,16 @@ module _ (name : Names) (c : MachineState) (s : State) where
   by_clear (p, o, false) works ends = let over = ends refl in record { memory = over.memory; threads = over.threads }
 
   clears_refine : IsSound (posting Reclaim c) → IsNormal Reclaim c.objects.spaces name → RefinesUnder name c s → RefinesUnder name (work Reclaim (posting Reclaim c)).0 s
-  clears_refine sound normal refines = by_clear (cleared_on c.progress c.objects)
-      (refines_shown name c s refines (cleared_on c.progress c.objects).1 (cleared_shows_names name c.objects c.posts.has_round c.tree c.limits.max_words c.progress sound.heap normal))
+  clears_refine sound normal refines = by_clear (next_clear_step c.progress c.objects)
+      (refines_shown name c s refines (next_clear_step c.progress c.objects).1 (cleared_shows_names name c.objects c.posts.has_round c.tree c.limits.max_words c.progress sound.heap normal))
       (λ over. refines_shown name c s refines (retire_old c.objects) (retired_shows name c.objects c.posts.has_round c.tree c.limits.max_words c.progress sound.heap normal over))
 
   -- in each phase
   work_refines : (x : Phase) → IsSound (posting x c) → IsNormal x c.objects.spaces name → RefinesUnder name c s → RefinesUnder name (work x (posting x c)).0 s
   work_refines Idle sound normal refines = opens_refine sound refines
   work_refines Mark sound normal refines = marks_refine sound refines
-  work_refines Allocate sound normal refines = steps_refine Allocate (looked_on c.progress c.objects) (looked_shows name c.objects c.posts.has_round c.tree c.limits.max_words c.progress sound.heap normal) refines
-  work_refines Copy sound normal refines = steps_refine Copy (copied_on c.tree c.progress c.objects) (copied_shows name c.objects c.posts.has_round c.tree c.limits.max_words c.progress sound.heap normal) refines
+  work_refines Allocate sound normal refines = steps_refine Allocate (next_shell_step c.progress c.objects) (looked_shows name c.objects c.posts.has_round c.tree c.limits.max_words c.progress sound.heap normal) refines
+  work_refines Copy sound normal refines = steps_refine Copy (next_copy_step c.tree c.progress c.objects) (copied_shows name c.objects c.posts.has_round c.tree c.limits.max_words c.progress sound.heap normal) refines
   work_refines PreFlip sound normal refines = refines_next name (posting PreFlip c) s (record { memory = refines.memory; threads = refines.threads })
   work_refines HeapFlip sound normal refines = flips_refine sound normal refines
   work_refines ThreadFlip sound normal refines = refines_next name (posting ThreadFlip c) s (record { memory = refines.memory; threads = refines.threads })

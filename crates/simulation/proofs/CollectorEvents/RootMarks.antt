@@ -11,10 +11,10 @@ use Rattle.interpreter.specs.threads_monitors.Roots.{roots}
 use Rattle.interpreter.specs.threads_monitors.declared.threads.ThreadStatus.{ThreadStatus}
 use Rattle.interpreter.specs.threads_monitors.declared.threads.ThreadStatus.TheVariants.{Live, Ended}
 use Rattle.interpreter.specs.threads_monitors.declared.threads.Thread.{Thread}
-use Rattle.collector.specs.Marking.{with_all_marked}
+use Rattle.collector.specs.MarkSteps.{with_all_marked}
 use Rattle.collector.specs.References.{Test, ValuePasses}
 use Rattle.collector.specs.Soundness.{IsListed}
-use Rattle.simulation.specs.Collecting.{with_roots_marked, with_status_marked, with_thread_marked}
+use Rattle.simulation.specs.CollectorSteps.{with_roots_marked, with_status_marked, with_thread_marked}
 
 -- what the frames of a thread refer to, as values
 abbrev pub status_values : ThreadStatus → List Value

@@ -16,23 +16,23 @@ use Rattle.interpreter.specs.object_memory.Spaces.{Spaces}
 use Rattle.collector.specs.Phases.{is_live, is_marked_cell, no_progress}
 use Rattle.collector.specs.References.{ValuePasses}
 use Rattle.collector.specs.Soundness.{IsSoundHeap}
-use Rattle.collector.specs.Marking.{is_closed, is_none_grey, marked_on, statics_scanned}
-use Rattle.collector.specs.Copying.{copied_on, looked_on}
-use Rattle.collector.specs.Flips.{cleared_on, flipped_on, retire_old}
-use Rattle.collector.specs.Holding.{hold_of, is_flipping, is_marking, may_hold, static_may_hold}
+use Rattle.collector.specs.MarkSteps.{is_closed, is_none_grey, next_mark_step, statics_scanned}
+use Rattle.collector.specs.CopySteps.{next_copy_step, next_shell_step}
+use Rattle.collector.specs.Flips.{next_clear_step, next_flip_step, retire_old}
+use Rattle.collector.specs.Holds.{hold_of, is_flipping, is_marking, may_hold, static_may_hold}
 use Rattle.collector.specs.declared.progress.Progress.{Progress}
 use Rattle.collector.specs.phase_handshake.Handshakes.{Handshakes, all_answered, all_seen, has_seen, posted_round, seat_of, clear_answer}
 use Rattle.collector.specs.phase_handshake.declared.posts.Seat.{Seat}
 use Rattle.simulation.specs.MachineStates.{MachineState}
 use Rattle.simulation.specs.Sound.{IsSound}
 use Rattle.simulation.proofs.CollectorEvents.NextBlockSize.{next_grows, next_within}
-use Rattle.simulation.specs.Collecting.{clear_object, collect, cycle_ended, cycle_opened, flip_values, mark_object, next_posted, initial_words, round_posted, rounds, work, do_work}
+use Rattle.simulation.specs.CollectorSteps.{clear_object, collect, cycle_ended, cycle_opened, flip_values, mark_object, next_posted, initial_words, round_posted, rounds, work, do_work}
 use Rattle.interpreter.proofs.cil_model.Lists.{none_is_some}
 use Rattle.collector.proofs.phase_handshake.Closeness.{cycle_close, passes_at, phase_close, round_close, same_phase, seat_here, seat_there}
 use Rattle.collector.proofs.Addresses.Tests.{marked_cell, may_hold_live, never, new_cell, old_cell, value_weakens}
 use Rattle.collector.proofs.Marks.MarkChanges.{AreDarker-same}
 use Rattle.collector.proofs.Marks.MarkedHeaps.{AreDarker-with_all_marked, with_all_marked-noted}
-use Rattle.collector.proofs.Marks.MarkWork.{AreDarker-marked_on, IsSoundHeap-marked_on, IsSoundHeap-statics_scanned, marked_on-noted, marked_on-progress, marked_on-works, statics_scanned-pass}
+use Rattle.collector.proofs.Marks.MarkWork.{AreDarker-next_mark_step, IsSoundHeap-next_mark_step, IsSoundHeap-statics_scanned, next_mark_step-noted, next_mark_step-progress, next_mark_step-works, statics_scanned-pass}
 use Rattle.collector.proofs.PhaseChanges.Rounds.{HasNotBegun-opened, HasNotBegun-posted, IsSoundHeap-closed, IsSoundHeap-opened, IsSoundHeap-round}
 use Rattle.collector.proofs.ThreadReferences.MarkingPhases.{allocate_held, allocate_held-static, closed_held, closed_held-static, may_hold_any, opened_held, round_held, stays_held, stays_held-static}
 use Rattle.collector.proofs.Addresses.GrowingBlocks.{TestsStay, passes_stays}
@@ -188,17 +188,17 @@ module _ (c : MachineState) (sound : IsSound (posting Mark c)) (seen : all_seen 
 
   -- after a step
   abbrev after_mark : Progress × Objects × Bool
-  after_mark = marked_on c.tree c.progress c.objects
+  after_mark = next_mark_step c.tree c.progress c.objects
 
   -- a slot of a grey object is scanned
   pub marks_soundly : IsSound (record marking { progress = after_mark.0; objects = after_mark.1 })
   marks_soundly =
-      let darker = AreDarker-marked_on c.tree c.posts.has_round c.limits.max_words c.progress c.objects sound.heap in
-      let same = marked_on-progress c.tree c.progress c.objects in
+      let darker = AreDarker-next_mark_step c.tree c.posts.has_round c.limits.max_words c.progress c.objects sound.heap in
+      let same = next_mark_step-progress c.tree c.progress c.objects in
       works_soundly marking sound seen after_mark.0 after_mark.1 c.statics
-      (IsSoundHeap-marked_on c.tree c.posts.has_round c.limits.max_words c.progress c.objects sound.heap)
+      (IsSoundHeap-next_mark_step c.tree c.posts.has_round c.limits.max_words c.progress c.objects sound.heap)
       (λ mark round. ap (λ (q : Progress). q.scanned_statics) same ∙ sound.rounds mark round)
-      (λ seat a held. stays_held marking.posts c.objects.spaces after_mark.1.spaces seat darker (marked_on-noted c.tree c.progress c.objects) a held)
+      (λ seat a held. stays_held marking.posts c.objects.spaces after_mark.1.spaces seat darker (next_mark_step-noted c.tree c.progress c.objects) a held)
       (λ number v there. subst (λ q. ValuePasses (static_may_hold Mark after_mark.1.spaces q number) v) (sym same)
       (value_weakens (static_may_hold Mark c.objects.spaces c.progress number) (static_may_hold Mark after_mark.1.spaces c.progress number)
       (stays_held-static Mark c.objects.spaces after_mark.1.spaces c.progress number darker) v (sound.statics number v there)))
@@ -259,13 +259,13 @@ module _ (c : MachineState) (sound : IsSound (posting Mark c)) (seen : all_seen 
   mark_work_soundly = either_soundly c.progress.scanned_statics (mark_object marking after_mark)
       (record marking { progress = (statics_scanned c.progress c.objects c.statics).0; objects = (statics_scanned c.progress c.objects c.statics).1 }, Worked)
       (λ scanned. marked_soundly after_mark marks_soundly (λ over.
-      rounds_soundly (none_grey c.objects.spaces.grey (sym (marked_on-works c.tree c.posts.has_round c.limits.max_words c.progress c.objects sound.heap) ∙ over)) scanned))
+      rounds_soundly (none_grey c.objects.spaces.grey (sym (next_mark_step-works c.tree c.posts.has_round c.limits.max_words c.progress c.objects sound.heap) ∙ over)) scanned))
       (λ early. scans_soundly)
 
 -- ---- Allocate
 
 -- what is old, marked or new stays so where an object gets its copy
-looked_tests : (tree : Tree) (has_round : Bool) (words : ℕ) (p : Progress) (o : Objects) → IsSoundHeap tree Allocate has_round words p o.spaces → TestsStay o.spaces (looked_on p o).1.spaces
+looked_tests : (tree : Tree) (has_round : Bool) (words : ℕ) (p : Progress) (o : Objects) → IsSoundHeap tree Allocate has_round words p o.spaces → TestsStay o.spaces (next_shell_step p o).1.spaces
 looked_tests tree has_round words p o sound = record {
   old = λ a e. (let c = old_cell o.spaces a e in let d = looked_old p o a c.0 c.1 in ap is_some d.1);
   marked = λ a e. (let c = marked_cell o.spaces a e in let d = looked_old p o a c.0 c.1 in ap is_marked_cell d.1 ∙ (d.2.marked ∙ c.2));
@@ -275,7 +275,7 @@ looked_tests tree has_round words p o sound = record {
 module _ (c : MachineState) (sound : IsSound (posting Allocate c)) (seen : all_seen (posting Allocate c).posts ≡ true) where
   -- after a step
   abbrev after_look : Progress × Objects × Bool
-  after_look = looked_on c.progress c.objects
+  after_look = next_shell_step c.progress c.objects
 
   -- an object gets its copy
   pub looks_soundly : IsSound (record (posting Allocate c) { progress = after_look.0; objects = after_look.1 })
@@ -301,7 +301,7 @@ module _ (c : MachineState) (sound : IsSound (posting Allocate c)) (seen : all_s
 -- ---- Copy
 
 -- what is old, marked or new stays so where a word is copied
-copied_tests : (tree : Tree) (has_round : Bool) (words : ℕ) (p : Progress) (o : Objects) → IsSoundHeap tree Copy has_round words p o.spaces → TestsStay o.spaces (copied_on tree p o).1.spaces
+copied_tests : (tree : Tree) (has_round : Bool) (words : ℕ) (p : Progress) (o : Objects) → IsSoundHeap tree Copy has_round words p o.spaces → TestsStay o.spaces (next_copy_step tree p o).1.spaces
 copied_tests tree has_round words p o sound =
     let old = copied_old tree p o has_round words sound in
     record {
@@ -313,7 +313,7 @@ copied_tests tree has_round words p o sound =
 module _ (c : MachineState) (sound : IsSound (posting Copy c)) (seen : all_seen (posting Copy c).posts ≡ true) where
   -- after a step
   abbrev after_copy : Progress × Objects × Bool
-  after_copy = copied_on c.tree c.progress c.objects
+  after_copy = next_copy_step c.tree c.progress c.objects
 
   -- a word is copied
   pub fills_soundly : IsSound (record (posting Copy c) { progress = after_copy.0; objects = after_copy.1 })
@@ -358,7 +358,7 @@ module _ (c : MachineState) where
 module _ (c : MachineState) (sound : IsSound (posting HeapFlip c)) (seen : all_seen (posting HeapFlip c).posts ≡ true) where
   -- after a step
   abbrev after_flip : Progress × List Value × Bool
-  after_flip = flipped_on c.progress c.objects c.statics
+  after_flip = next_flip_step c.progress c.objects c.statics
 
   -- a static field is flipped
   pub flips_soundly : IsSound (record (posting HeapFlip c) { progress = after_flip.0; statics = after_flip.1 })
@@ -388,7 +388,7 @@ module _ (c : MachineState) (sound : IsSound (posting HeapFlip c)) (seen : all_s
 module _ (c : MachineState) (sound : IsSound (posting Reclaim c)) (seen : all_seen (posting Reclaim c).posts ≡ true) where
   -- after a step
   abbrev after_clear : Progress × Objects × Bool
-  after_clear = cleared_on c.progress c.objects
+  after_clear = next_clear_step c.progress c.objects
 
   -- a new object is cleared
   pub clears_soundly : IsSound (record (posting Reclaim c) { progress = after_clear.0; objects = after_clear.1 })

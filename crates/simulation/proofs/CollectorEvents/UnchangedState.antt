@@ -13,14 +13,14 @@ use Rattle.interpreter.specs.reference_machine.States.{State}
 use Rattle.interpreter.specs.object_memory.declared.values.Value.{Value}
 use Rattle.interpreter.specs.object_memory.Objects.{Objects}
 use Rattle.reference_machine.specs.TypedStates.{IsTyped}
-use Rattle.collector.specs.Marking.{is_closed, marked_on, statics_scanned}
-use Rattle.collector.specs.Copying.{copied_on, looked_on}
-use Rattle.collector.specs.Flips.{cleared_on, flipped_on}
+use Rattle.collector.specs.MarkSteps.{is_closed, next_mark_step, statics_scanned}
+use Rattle.collector.specs.CopySteps.{next_copy_step, next_shell_step}
+use Rattle.collector.specs.Flips.{next_clear_step, next_flip_step}
 use Rattle.collector.specs.declared.progress.Progress.{Progress}
 use Rattle.collector.specs.phase_handshake.Handshakes.{all_answered, all_seen}
 use Rattle.simulation.specs.Counts.{IsCounted}
 use Rattle.simulation.specs.MachineStates.{MachineState}
-use Rattle.simulation.specs.Collecting.{clear_object, collect, flip_values, mark_object, next_posted, round_posted, rounds, work, do_work}
+use Rattle.simulation.specs.CollectorSteps.{clear_object, collect, flip_values, mark_object, next_posted, round_posted, rounds, work, do_work}
 use Rattle.simulation.specs.Refines.{Names, Represents, RefinesUnder}
 use Rattle.simulation.proofs.CollectorEvents.Soundness.{collected_soundly}
 use Rattle.simulation.proofs.CollectorEvents.RepresentedObjects.{collected_refines}
@@ -72,14 +72,14 @@ module _ (c : MachineState) where
   -- in each phase
   work_keeps : (x : Phase) → KeepsRest c (work x c).0
   work_keeps Idle = record { tree = refl; limits = refl; threads = refl; printed = refl }
-  work_keeps Mark = either_keeps c.progress.scanned_statics (mark_object c (marked_on c.tree c.progress c.objects))
+  work_keeps Mark = either_keeps c.progress.scanned_statics (mark_object c (next_mark_step c.tree c.progress c.objects))
       (record c { progress = (statics_scanned c.progress c.objects c.statics).0; objects = (statics_scanned c.progress c.objects c.statics).1 }, Worked)
-      (marked_keeps (marked_on c.tree c.progress c.objects))
+      (marked_keeps (next_mark_step c.tree c.progress c.objects))
       (record { tree = refl; limits = refl; threads = refl; printed = refl })
-  work_keeps Allocate = worked_keeps (looked_on c.progress c.objects)
-  work_keeps Copy = worked_keeps (copied_on c.tree c.progress c.objects)
-  work_keeps HeapFlip = flipped_keeps (flipped_on c.progress c.objects c.statics)
-  work_keeps Reclaim = cleared_keeps (cleared_on c.progress c.objects)
+  work_keeps Allocate = worked_keeps (next_shell_step c.progress c.objects)
+  work_keeps Copy = worked_keeps (next_copy_step c.tree c.progress c.objects)
+  work_keeps HeapFlip = flipped_keeps (next_flip_step c.progress c.objects c.statics)
+  work_keeps Reclaim = cleared_keeps (next_clear_step c.progress c.objects)
   work_keeps _ = next_keeps
 
   -- and so in all

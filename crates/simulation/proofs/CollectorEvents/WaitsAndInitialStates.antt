@@ -10,14 +10,14 @@ use Rattle.interpreter.specs.cil_model.declared.reports.Report.TheVariants.{Abse
 use Rattle.interpreter.specs.object_memory.declared.values.Value.{Value}
 use Rattle.interpreter.specs.object_memory.Objects.{Objects}
 use Rattle.interpreter.specs.threads_monitors.Threads.{is_live_at}
-use Rattle.collector.specs.Copying.{copied_on, looked_on}
-use Rattle.collector.specs.Flips.{cleared_on, flipped_on}
-use Rattle.collector.specs.Marking.{is_closed, marked_on, statics_scanned}
+use Rattle.collector.specs.CopySteps.{next_copy_step, next_shell_step}
+use Rattle.collector.specs.Flips.{next_clear_step, next_flip_step}
+use Rattle.collector.specs.MarkSteps.{is_closed, next_mark_step, statics_scanned}
 use Rattle.collector.specs.declared.progress.Progress.{Progress}
 use Rattle.collector.specs.phase_handshake.Handshakes.{Handshakes, IsWaiting, acknowledge_phase, all_answered, all_seen, is_open, is_open_to, is_phase, own_phase, phase_number, seat_after, seat_of}
 use Rattle.collector.specs.phase_handshake.declared.posts.Seat.{Seat}
 use Rattle.collector.proofs.phase_handshake.Closeness.{same_phase}
-use Rattle.simulation.specs.Collecting.{acknowledgement, clear_object, collect, flip_values, mark_object, next_posted, round_posted, rounds, work, do_work}
+use Rattle.simulation.specs.CollectorSteps.{acknowledgement, clear_object, collect, flip_values, mark_object, next_posted, round_posted, rounds, work, do_work}
 use Rattle.simulation.specs.MachineStates.{MachineState}
 use Rattle.simulation.proofs.Threads.Seats.{own_seat}
 
@@ -65,14 +65,14 @@ module _ (c : MachineState) where
   work_waits : (x : Phase) → WaitsRightly c (work x c)
   work_waits Idle = works_on (work Idle c).0
   work_waits Mark =
-      either_waits c c.progress.scanned_statics (mark_object c (marked_on c.tree c.progress c.objects))
+      either_waits c c.progress.scanned_statics (mark_object c (next_mark_step c.tree c.progress c.objects))
       (record c { progress = (statics_scanned c.progress c.objects c.statics).0; objects = (statics_scanned c.progress c.objects c.statics).1 }, Worked)
-      (λ scanned. marked_waits (marked_on c.tree c.progress c.objects))
+      (λ scanned. marked_waits (next_mark_step c.tree c.progress c.objects))
       (λ early. works_on (record c { progress = (statics_scanned c.progress c.objects c.statics).0; objects = (statics_scanned c.progress c.objects c.statics).1 }))
-  work_waits Allocate = worked_waits (looked_on c.progress c.objects)
-  work_waits Copy = worked_waits (copied_on c.tree c.progress c.objects)
-  work_waits HeapFlip = flipped_waits (flipped_on c.progress c.objects c.statics)
-  work_waits Reclaim = cleared_waits (cleared_on c.progress c.objects)
+  work_waits Allocate = worked_waits (next_shell_step c.progress c.objects)
+  work_waits Copy = worked_waits (next_copy_step c.tree c.progress c.objects)
+  work_waits HeapFlip = flipped_waits (next_flip_step c.progress c.objects c.statics)
+  work_waits Reclaim = cleared_waits (next_clear_step c.progress c.objects)
   work_waits _ = works_on (next_posted c).0
 
   -- it waits for a thread that hasn't acknowledged the phase or answered the round

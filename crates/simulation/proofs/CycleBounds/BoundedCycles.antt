@@ -29,8 +29,8 @@ use Rattle.interpreter.specs.object_memory.Cells.{used_words}
 use Rattle.interpreter.specs.loaded_program.MethodNumbers.{number_of}
 use Rattle.interpreter.specs.object_memory.declared.values.Value.{Value}
 use Rattle.simulation.specs.MachineStates.{MachineState}
-use Rattle.simulation.specs.Collecting.{with_acknowledgement}
-use Rattle.simulation.specs.Retained.{AreCyclesBounded}
+use Rattle.simulation.specs.CollectorSteps.{with_acknowledgement}
+use Rattle.simulation.specs.RetainedObjects.{AreCyclesBounded}
 use Rattle.simulation.specs.Rooms.{spaces_of}
 use Rattle.simulation.specs.Runs.{DoTransitions, IsNext, IsRunOf, RefusesBeyondRoom}
 use Rattle.simulation.specs.Sound.{IsSound}

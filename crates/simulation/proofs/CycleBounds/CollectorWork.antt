@@ -22,10 +22,10 @@ use Rattle.interpreter.specs.instructions.barriers.Barriers.{with_marked}
 use Rattle.interpreter.proofs.object_memory.Blocks.{range_in}
 use Rattle.interpreter.proofs.object_memory.Offsets.{found_here}
 use Rattle.collector.specs.References.{holds_reference, reference_in}
-use Rattle.collector.specs.Marking.{is_closed, is_none_grey, mark_step, marked_on, object_scanned, oldest_cell, slot_scanned, statics_scanned, with_all_marked, without_oldest, word_of}
+use Rattle.collector.specs.MarkSteps.{is_closed, is_none_grey, mark_step, next_mark_step, object_scanned, oldest_cell, slot_scanned, statics_scanned, with_all_marked, without_oldest, word_of}
 use Rattle.collector.specs.Attempts.{has_loaded, most_spent, no_attempt, attempt_cost, stage_number, with_loaded}
-use Rattle.collector.specs.Copying.{before_word, after_word, copied_at, copied_on, looked_on, needs_copy, object_copied, shell_step, word_step, word_stored}
-use Rattle.collector.specs.Flips.{cleared_at, flip_step}
+use Rattle.collector.specs.CopySteps.{before_word, after_word, copy_step_at, next_copy_step, next_shell_step, needs_copy, object_copied, shell_step, word_step, word_stored}
+use Rattle.collector.specs.Flips.{clear_step_at, flip_step}
 use Rattle.collector.specs.declared.progress.Attempt.{Attempt}
 use Rattle.collector.specs.declared.progress.Progress.{Progress}
 use Rattle.collector.specs.declared.progress.Stage.{Stage}
@@ -35,7 +35,7 @@ use Rattle.collector.specs.phase_handshake.Handshakes.{all_answered, all_seen}
 use Rattle.collector.proofs.Copies.CopyWork.{IsStep, copied_cases, none_stored, one_stored}
 use Rattle.collector.proofs.Copies.CopiedWords.{loaded_checks, loaded_stage}
 use Rattle.collector.proofs.BlockWalks.FirstCells.{found_is}
-use Rattle.simulation.specs.Collecting.{clear_object, collect, cycle_opened, flip_values, mark_object, next_posted, initial_words, round_posted, rounds, work, do_work}
+use Rattle.simulation.specs.CollectorSteps.{clear_object, collect, cycle_opened, flip_values, mark_object, next_posted, initial_words, round_posted, rounds, work, do_work}
 use Rattle.simulation.specs.MachineStates.{MachineState}
 use Rattle.simulation.specs.Sound.{IsSound}
 use Rattle.simulation.proofs.CollectorEvents.Soundness.{posting}
@@ -182,7 +182,7 @@ module _ (c : MachineState) (sound : IsSound (posting Mark c)) where
       (λ more. either_takes marking (c.posts.has_round && not (all_answered marking.posts)) (marking, Waiting) (round_posted marking, Worked) (λ late. waits marking) (λ answered. works marking (round_posted marking) (λ e. absurd cc) (λ e. absurd cc) (record { old = refl; new = refl }) (round_takes scanned none more answered)))
 
   -- the oldest grey object is there
-  marks_take : c.progress.scanned_statics ≡ true → TakesWork marking Gc (mark_object marking (marked_on c.tree c.progress c.objects))
+  marks_take : c.progress.scanned_statics ≡ true → TakesWork marking Gc (mark_object marking (next_mark_step c.tree c.progress c.objects))
   marks_take scanned = by_grey c.objects.spaces.grey refl
     where
       by_cell : (g : Addr) (rest : List Addr) → c.objects.spaces.grey ≡ g ∷ rest → (o : Option Cell) → cell_in c.objects.spaces.old g ≡ o → TakesWork marking Gc (mark_object marking (mark_step c.tree c.progress c.objects (g ∷ rest) o))
@@ -197,7 +197,7 @@ module _ (c : MachineState) (sound : IsSound (posting Mark c)) where
 
   marking_takes : TakesWork marking Gc (work Mark marking)
   marking_takes =
-      either_takes marking c.progress.scanned_statics (mark_object marking (marked_on c.tree c.progress c.objects))
+      either_takes marking c.progress.scanned_statics (mark_object marking (next_mark_step c.tree c.progress c.objects))
       (record marking { progress = (statics_scanned c.progress c.objects c.statics).0; objects = (statics_scanned c.progress c.objects c.statics).1 }, Worked)
       marks_take
       (λ early. works marking (record marking { progress = (statics_scanned c.progress c.objects c.statics).0; objects = (statics_scanned c.progress c.objects c.statics).1 }) (λ e. absurd cc) (λ e. absurd cc) scan_large (scan_takes early))
@@ -229,7 +229,7 @@ module _ (c : MachineState) (sound : IsSound (posting Allocate c)) where
       omega (arith, within, fits, long, large)
 
   allocating_takes : TakesWork allocating Gc (work Allocate allocating)
-  allocating_takes = worked_takes allocating (looked_on c.progress c.objects) (λ e. absurd cc) (λ e. absurd cc) (look_large (cell_in c.objects.spaces.old (address_after_cell c.objects.spaces.old c.progress.cursor))) (look_takes (cell_in c.objects.spaces.old (address_after_cell c.objects.spaces.old c.progress.cursor)) refl) (omega arith)
+  allocating_takes = worked_takes allocating (next_shell_step c.progress c.objects) (λ e. absurd cc) (λ e. absurd cc) (look_large (cell_in c.objects.spaces.old (address_after_cell c.objects.spaces.old c.progress.cursor))) (look_takes (cell_in c.objects.spaces.old (address_after_cell c.objects.spaces.old c.progress.cursor)) refl) (omega arith)
 
 -- ---- Copy
 
@@ -354,7 +354,7 @@ module _ (c : MachineState) (sound : IsSound (posting Copy c)) where
     by_cell None none some = absurd cc
     by_cell (Some cell) lies some = by_other cell lies cell.other some
 
-  copy_takes : (found : Option ℕ) → found_in has_other c.objects.spaces.old (start + c.progress.cursor) ≡ found → Leaves (copied_at c.tree c.progress c.objects found)
+  copy_takes : (found : Option ℕ) → found_in has_other c.objects.spaces.old (start + c.progress.cursor) ≡ found → Leaves (copy_step_at c.tree c.progress c.objects found)
   copy_takes None none some = absurd cc
   copy_takes (Some at) found some = by_cell at found (cell_in c.objects.spaces.old (record { number = at })) refl some
 
@@ -363,7 +363,7 @@ module _ (c : MachineState) (sound : IsSound (posting Copy c)) where
   step_large o (one_stored at cell b t lies other same) = subst (λ (x : Objects). AreAsLarge c.objects.spaces x.spaces) (sym same) (record { old = refl; new = refl })
 
   copying_takes : TakesWork copying Gc (work Copy copying)
-  copying_takes = worked_takes copying (copied_on c.tree c.progress c.objects) (λ e. absurd cc) (λ e. absurd cc) (step_large (copied_on c.tree c.progress c.objects).1 (copied_cases c.tree c.progress c.objects)) (copy_takes (found_in has_other c.objects.spaces.old (start + c.progress.cursor)) refl) (omega arith)
+  copying_takes = worked_takes copying (next_copy_step c.tree c.progress c.objects) (λ e. absurd cc) (λ e. absurd cc) (step_large (next_copy_step c.tree c.progress c.objects).1 (copied_cases c.tree c.progress c.objects)) (copy_takes (found_in has_other c.objects.spaces.old (start + c.progress.cursor)) refl) (omega arith)
 
 -- ---- HeapFlip
 
@@ -416,7 +416,7 @@ module _ (c : MachineState) (sound : IsSound (posting Reclaim c)) where
       let fits = sound.heap.blocks.spaces.new.fits in
       works clearing (record clearing { progress = (cleared_cell at (Some cell)).0; objects = (cleared_cell at (Some cell)).1 }) (λ e. absurd cc) (λ e. absurd cc) (record { old = refl; new = refl }) (omega (arith, following, within, fits))
 
-  clear_takes : (found : Option ℕ) → found_in is_noted c.objects.spaces.new (new_start + c.progress.cursor) ≡ found → TakesWork clearing Gc (clear_object clearing (cleared_at c.progress c.objects found))
+  clear_takes : (found : Option ℕ) → found_in is_noted c.objects.spaces.new (new_start + c.progress.cursor) ≡ found → TakesWork clearing Gc (clear_object clearing (clear_step_at c.progress c.objects found))
   clear_takes None none = ends
   clear_takes (Some at) found = cell_takes at found (cell_in c.objects.spaces.new (record { number = at })) refl
 

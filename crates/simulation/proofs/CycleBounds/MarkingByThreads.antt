@@ -13,7 +13,7 @@ use Rattle.interpreter.specs.object_memory.Cells.{literal_number, store_monitor,
 use Rattle.interpreter.specs.object_memory.Objects.{Objects, with_cell, with_literal_monitor, with_slot}
 use Rattle.interpreter.specs.object_memory.Values.{value_word}
 use Rattle.interpreter.specs.instructions.barriers.Barriers.{object_born, stored_int, stored_monitor, stored_static, stored_value, with_marked}
-use Rattle.collector.specs.Marking.{with_all_marked}
+use Rattle.collector.specs.MarkSteps.{with_all_marked}
 use Rattle.collector.specs.Phases.{is_before_copies}
 use Rattle.collector.proofs.Births.BirthSoundness.{granted}
 use Rattle.simulation.proofs.CycleBounds.MarkingWork.{LeavesNoMore, change_leaves, leaves_itself, leaves_then, listed_birth_leaves, mark_leaves, old_birth_leaves}

@@ -17,7 +17,7 @@ use Rattle.collector.specs.declared.progress.Progress.{Progress}
 use Rattle.collector.specs.phase_handshake.Handshakes.{AreClose, Handshakes, IsClose, own_phase, seat_of}
 use Rattle.collector.specs.phase_handshake.declared.posts.Seat.{Seat}
 use Rattle.collector.proofs.Addresses.Tests.{marked_cell}
-use Rattle.simulation.specs.Collecting.{with_acknowledgement, with_thread_marked}
+use Rattle.simulation.specs.CollectorSteps.{with_acknowledgement, with_thread_marked}
 use Rattle.simulation.specs.MachineStates.{MachineState}
 use Rattle.simulation.specs.Sound.{IsSound}
 use Rattle.simulation.proofs.CollectorEvents.AcknowledgementCases.{after_acknowledgement}

@@ -10,7 +10,7 @@ use Rattle.interpreter.specs.cil_model.Assignable.{is_reference, is_reference_el
 use Rattle.interpreter.specs.cil_model.FlowRules.{is_of_element_kind}
 use Rattle.interpreter.specs.reference_machine.Values.{ObjectName, Born, Value as StateValue, same_kind}
 use Rattle.interpreter.specs.reference_machine.States.{Array as IsArray, HeapObject, Frame as StateFrame, State, array_at, elements_of_contents, replaced_at, same_kind_or_none, with_element, with_object}
-use Rattle.interpreter.specs.reference_machine.Effects.{Setting, Effect as StateEffect, Raises as StateRaises, onward as onward_frame, when_some as state_given}
+use Rattle.interpreter.specs.reference_machine.Effects.{StepContext, Effect as StateEffect, Raises as StateRaises, onward as onward_frame, when_some as state_given}
 use Rattle.interpreter.specs.reference_machine.Steps.{execute, element, may_hold, next, load_element, store_element, store_reference}
 use Rattle.interpreter.proofs.reference_machine.TypedStates.RunningFrames.{IsTypedEffect}
 use Rattle.interpreter.specs.resolved_code.declared.operations.Operation.TheVariants as Resolved
@@ -94,7 +94,7 @@ elements_kind kinds.Int32 t h = of_integer t Int32Element h
 elements_kind kinds.Int64 t h = of_integer t Int64Element h
 elements_kind kinds.Reference t h = reference_kind t.element t.brackets h
 
-module _ (here : Setting) (model : MemoryModel here.tree) (name : Names) (m : Frames) (o : Objects) (statics : List Value) (printed : List ℕ) (s : State) (f : StateFrame) (below : List StateFrame) where
+module _ (here : StepContext) (model : MemoryModel here.tree) (name : Names) (m : Frames) (o : Objects) (statics : List Value) (printed : List ℕ) (s : State) (f : StateFrame) (below : List StateFrame) where
   module _ (i : Instruction) (operation : Operation) (at : IsSetting here model name m o statics printed s f below i operation) where
     -- ---- a slot
 

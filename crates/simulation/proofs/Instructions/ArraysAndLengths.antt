@@ -16,7 +16,7 @@ use Rattle.interpreter.specs.cil_model.Legality.{IsLegal}
 use Rattle.interpreter.specs.reference_machine.Values.{ObjectName, Value as StateValue, Int32 as Int32Value, Native as NativeValue, Null, Reference, integer_zero, zero_of}
 use Rattle.interpreter.specs.reference_machine.Arithmetic.{as_index}
 use Rattle.interpreter.specs.reference_machine.States.{Array as IsArray, Frame as StateFrame, State, array_at, next_name, with_birth as with_state_birth}
-use Rattle.interpreter.specs.reference_machine.Effects.{Setting, Raises as StateRaises, when_some as state_given, not_null, onward as onward_frame, after}
+use Rattle.interpreter.specs.reference_machine.Effects.{StepContext, Raises as StateRaises, when_some as state_given, not_null, onward as onward_frame, after}
 use Rattle.interpreter.specs.reference_machine.Steps.{execute, next, new_array}
 use Rattle.interpreter.specs.resolved_code.ById.{class_name, element_at, type_at}
 use Rattle.interpreter.specs.resolved_code.declared.operations.Operation.TheVariants as Resolved
@@ -39,12 +39,12 @@ use Rattle.interpreter.specs.instructions.TypeTransitions.{resolved_element, hel
 use Rattle.interpreter.specs.threads_monitors.Frames.{Frames, with_pc, with_stack}
 use Rattle.interpreter.specs.threads_monitors.declared.effects.Effect.TheVariants.{Continues, Raises}
 use Rattle.interpreter.specs.instructions.Frames.{when_some, value_pushed}
-use Rattle.interpreter.specs.instructions.ObjectTransitions.{beside, object_of, index_of, slots_of, object_pushed, new_array_of, new_array_transition}
+use Rattle.interpreter.specs.instructions.ObjectTransitions.{with_objects, object_of, index_of, slots_of, object_pushed, new_array_of, new_array_transition}
 use Rattle.interpreter.specs.declared.outcomes.InstructionOutcome.TheVariants.{OwnEffect}
 use Rattle.interpreter.specs.loaded_program.declared.instructions.LinkedInstruction.TheVariants as Linked
 use Rattle.interpreter.specs.Instructions.{operation_transition, of_objects, answer_of}
 use Rattle.interpreter.proofs.LinkedTransitions.{link_does}
-use Rattle.interpreter.specs.loaded_program.Operands.{element_held, array_held}
+use Rattle.interpreter.specs.loaded_program.Operands.{linked_element, linked_array}
 use Rattle.simulation.specs.Agreement.{Agree}
 use Rattle.simulation.specs.Refines.{Names, IsValue, native, int32, int64, null_reference, reference, IsWord}
 use Rattle.simulation.proofs.ListLaws.AgreeingLists.{agree_length}
@@ -69,7 +69,7 @@ count_fits name n k few same = subst (λ x. IsValue name (Native (pos n)) (Nativ
 -- ---- the kinds of new arrays
 
 -- a resolved element that represents one is what an array can hold
-held_back : (tree : Tree) → IsLegal tree → (e : ResolvedElement) (x : Element) → element_at tree e ≡ Some x → (h : ElementType) × (element_held e ≡ Some h) × (resolved_element h ≡ e)
+held_back : (tree : Tree) → IsLegal tree → (e : ResolvedElement) (x : Element) → element_at tree e ≡ Some x → (h : ElementType) × (linked_element e ≡ Some h) × (resolved_element h ≡ e)
 held_back tree legal ResolvedInt32 x is = (HeldInt32, refl, refl)
 held_back tree legal ResolvedInt64 x is = (HeldInt64, refl, refl)
 held_back tree legal ResolvedObject x is = (HeldObject, refl, refl)
@@ -79,25 +79,25 @@ held_back tree legal (ClassById n) x is = by_name (class_name tree n) refl is
     small : n < 2 ^ 16 → nat_lt n (2 ^ 16) ≡ true
     small h = grind (arith, nat_tests)
 
-    by_name : (c : Option ClassName) → class_name tree n ≡ c → option_map ClassElement c ≡ Some x → (h : ElementType) × (element_held (ClassById n) ≡ Some h) × (resolved_element h ≡ ClassById n)
+    by_name : (c : Option ClassName) → class_name tree n ≡ c → option_map ClassElement c ≡ Some x → (h : ElementType) × (linked_element (ClassById n) ≡ Some h) × (resolved_element h ≡ ClassById n)
     by_name None named e = none_is_some x e
     by_name (Some c) named e = (HeldClass n, ap (λ b. if b then Some (HeldClass n) else None) (small (class_number_small tree legal n c named)), refl)
 
 -- so is a resolved type with few brackets
-type_held_back : (tree : Tree) → IsLegal tree → (n : ResolvedType) (t : DeclaredType) → type_at tree n ≡ Some t → t.brackets < 256 → (a : ArrayElement) × (array_held n ≡ Some a) × (type_at tree (held_type a) ≡ Some t)
+type_held_back : (tree : Tree) → IsLegal tree → (n : ResolvedType) (t : DeclaredType) → type_at tree n ≡ Some t → t.brackets < 256 → (a : ArrayElement) × (linked_array n ≡ Some a) × (type_at tree (held_type a) ≡ Some t)
 type_held_back tree legal n t is few = by_element (element_at tree n.element) refl is
   where
     test : n.brackets < 256 → nat_lt n.brackets 256 ≡ true
     test h = grind (arith, nat_tests)
 
-    by_element : (x : Option Element) → element_at tree n.element ≡ x → option_map {U = DeclaredType} (λ e. record { element = e; brackets = n.brackets }) x ≡ Some t → (a : ArrayElement) × (array_held n ≡ Some a) × (type_at tree (held_type a) ≡ Some t)
+    by_element : (x : Option Element) → element_at tree n.element ≡ x → option_map {U = DeclaredType} (λ e. record { element = e; brackets = n.brackets }) x ≡ Some t → (a : ArrayElement) × (linked_array n ≡ Some a) × (type_at tree (held_type a) ≡ Some t)
     by_element None named e = none_is_some t e
     by_element (Some x) named e =
         let held = held_back tree legal n.element x named in
         let same : n.brackets ≡ t.brackets = ap (λ (y : DeclaredType). y.brackets) (same_Some (record { element = x; brackets = n.brackets }) t e) in
         let shallow : n.brackets < 256 = omega (arith, same, few) in
-        let first : array_held n ≡ option_map {U = ArrayElement} (λ h. record { element = h; brackets = n.brackets }) (element_held n.element) =
-        ap (λ b. if b then option_map {U = ArrayElement} (λ h. record { element = h; brackets = n.brackets }) (element_held n.element) else None) (test shallow) in (
+        let first : linked_array n ≡ option_map {U = ArrayElement} (λ h. record { element = h; brackets = n.brackets }) (linked_element n.element) =
+        ap (λ b. if b then option_map {U = ArrayElement} (λ h. record { element = h; brackets = n.brackets }) (linked_element n.element) else None) (test shallow) in (
           record { element = held.0; brackets = n.brackets },
           first ∙ ap (option_map {U = ArrayElement} (λ h. record { element = h; brackets = n.brackets })) held.1,
           ap (λ y. type_at tree (record { element = y; brackets = n.brackets })) held.2 ∙ is,
@@ -122,7 +122,7 @@ zero_words : (name : Names) (t : DeclaredType) (n : ℕ) → Agree (IsWord name)
 zero_words name t zero = tt
 zero_words name t (suc n) = (zero_word name t, zero_words name t n)
 
-module _ (here : Setting) (model : MemoryModel here.tree) (name : Names) (m : Frames) (o : Objects) (statics : List Value) (printed : List ℕ) (s : State) (f : StateFrame) (below : List StateFrame) where
+module _ (here : StepContext) (model : MemoryModel here.tree) (name : Names) (m : Frames) (o : Objects) (statics : List Value) (printed : List ℕ) (s : State) (f : StateFrame) (below : List StateFrame) where
   -- ---- ldlen
 
   -- the length of the array is that of the cell
@@ -130,7 +130,7 @@ module _ (here : Setting) (model : MemoryModel here.tree) (name : Names) (m : Fr
       DoesAlike here model name m o statics printed s f below (operation_transition here.tree (mutator_in here model) Resolved.LoadLength m o statics printed) (execute here s f below Named.LoadLength)
   load_length_alike at =
       one_operand here model name m o statics printed s f below Named.LoadLength Resolved.LoadLength at (of_objects o statics printed)
-      (λ array k. object_of array k o (λ a. when_some (slots_of o a) (λ slots. beside o (value_pushed (Native (pos (length slots))) k))))
+      (λ array k. object_of array k o (λ a. when_some (slots_of o a) (λ slots. with_objects o (value_pushed (Native (pos (length slots))) k))))
       (λ array rest. not_null array NullReference (λ n. state_given (array_at s n) (λ held. next here s f below (NativeValue (pos (length held.1)) ∷ rest))))
       (fine here model name m o statics printed s f below Named.LoadLength Resolved.LoadLength at)
       (λ v rest u rest' is is' refines k shorter t.
@@ -139,12 +139,12 @@ module _ (here : Setting) (model : MemoryModel here.tree) (name : Names) (m : Fr
       in_array a n held.0 held.1 (array_there here.tree name o s (model.reads name o statics s at.memory.fits at.running.typed) a n held.0 held.1 named there) rest rest' k shorter)))
     where
       in_array : (a : Addr) (n : ObjectName) (t : DeclaredType) (elements : List StateValue) → IsArrayThere here.tree name o s (model.reads name o statics s at.memory.fits at.running.typed) a n t elements → (rest : List Value) (rest' : List StateValue) → Agree (IsValue name) rest rest' → length rest ≤ length m.running.stack →
-          DoesAlike here model name m o statics printed s f below (of_objects o statics printed (when_some (slots_of o a) (λ slots. beside o (value_pushed (Native (pos (length slots))) (with_stack m rest))))) (next here s f below (NativeValue (pos (length elements)) ∷ rest'))
+          DoesAlike here model name m o statics printed s f below (of_objects o statics printed (when_some (slots_of o a) (λ slots. with_objects o (value_pushed (Native (pos (length slots))) (with_stack m rest))))) (next here s f below (NativeValue (pos (length elements)) ∷ rest'))
       in_array a n t elements array rest rest' k shorter =
           let slots : List ℕ = array.thing.cell.slots in
           let few : length slots ≤ MOST_WORDS = (model.reads name o statics s at.memory.fits at.running.typed).sizes a array.thing.cell array.thing.lies in
-          alike_transition here model name m o statics printed s f below Named.LoadLength Resolved.LoadLength at _ (of_objects o statics printed (beside o (value_pushed (Native (pos (length slots))) (with_stack m rest)))) _
-          (ap (λ (c : Option Cell). of_objects o statics printed (when_some (option_map (λ (y : Cell). y.slots) c) (λ xs. beside o (value_pushed (Native (pos (length xs))) (with_stack m rest))))) array.thing.lies)
+          alike_transition here model name m o statics printed s f below Named.LoadLength Resolved.LoadLength at _ (of_objects o statics printed (with_objects o (value_pushed (Native (pos (length slots))) (with_stack m rest)))) _
+          (ap (λ (c : Option Cell). of_objects o statics printed (when_some (option_map (λ (y : Cell). y.slots) c) (λ xs. with_objects o (value_pushed (Native (pos (length xs))) (with_stack m rest))))) array.thing.lies)
           (left_alike here model name m o statics printed s f below Named.LoadLength Resolved.LoadLength at (Native (pos (length slots))) (NativeValue (pos (length elements)))
           (count_fits name (length slots) (length elements) few (agree_length (IsWord name) slots elements array.values)) rest rest' k shorter)
 
@@ -154,7 +154,7 @@ module _ (here : Setting) (model : MemoryModel here.tree) (name : Names) (m : Fr
     -- an array is born, or memory is refused
     born_alike : (element : ArrayElement) → type_at here.tree (held_type element) ≡ Some t → (count : ℕ) (o' : Objects) (x : Option Addr) → ◌≡◌ {A = Objects × Option Addr} (object_born model.phase o (Array element) count) (o', x) →
         (rest : List Value) (rest' : List StateValue) → Agree (IsValue name) rest rest' → length rest ≤ length m.running.stack →
-        DoesAlike here model name m o statics printed s f below (of_objects o statics printed (beside o' (object_pushed x (with_stack m rest)))) (new_array here s f below t (pos count) rest')
+        DoesAlike here model name m o statics printed s f below (of_objects o statics printed (with_objects o' (object_pushed x (with_stack m rest)))) (new_array here s f below t (pos count) rest')
     born_alike element element_is count o' None born rest rest' k shorter = record {
       answer = answer_of (with_stack m rest) o' statics printed (OwnEffect (Raises OutOfMemory));
       is = refl;
@@ -175,7 +175,7 @@ module _ (here : Setting) (model : MemoryModel here.tree) (name : Names) (m : Fr
     }
     born_alike element element_is count o' (Some a) born rest rest' k shorter = record {
       answer = answer_of (with_pc (with_stack m (Ref a ∷ rest)) (m.running.pc + 1)) o' statics printed (OwnEffect Continues);
-      is = ap (λ transition. of_objects o statics printed (beside o' transition)) (leaves_is here model name m o statics printed s f below (Named.NewArray t) (Resolved.NewArray n) at (Ref a) rest shorter);
+      is = ap (λ transition. of_objects o statics printed (with_objects o' transition)) (leaves_is here model name m o statics printed s f below (Named.NewArray t) (Resolved.NewArray n) at (Ref a) rest shorter);
       refuses = λ _ h. never h;
       alike = λ r.
           subst (λ e. GoesAlike here model name m o statics printed s f below (answer_of (with_pc (with_stack m (Ref a ∷ rest)) (m.running.pc + 1)) o' statics printed (OwnEffect Continues)) e)
@@ -197,8 +197,8 @@ module _ (here : Setting) (model : MemoryModel here.tree) (name : Names) (m : Fr
     counted_alike element element_is (pos count) rest rest' k shorter =
         let birth : Objects × Option Addr = object_born model.phase o (Array element) count in
         alike_transition here model name m o statics printed s f below (Named.NewArray t) (Resolved.NewArray n) at (of_objects o statics printed (new_array_of model.phase element (pos count) (with_stack m rest) o))
-        (of_objects o statics printed (beside birth.0 (object_pushed birth.1 (with_stack m rest)))) (new_array here s f below t (pos count) rest')
-        (ap (λ b. of_objects o statics printed (if b then beside birth.0 (object_pushed birth.1 (with_stack m rest)) else None)) (model.bears name o statics s at.memory.fits))
+        (of_objects o statics printed (with_objects birth.0 (object_pushed birth.1 (with_stack m rest)))) (new_array here s f below t (pos count) rest')
+        (ap (λ b. of_objects o statics printed (if b then with_objects birth.0 (object_pushed birth.1 (with_stack m rest)) else None)) (model.bears name o statics s at.memory.fits))
         (born_alike element element_is count birth.0 birth.1 refl rest rest' k shorter)
 
     -- the whole instruction

@@ -24,12 +24,12 @@ use Rattle.interpreter.proofs.reference_machine.Programs.FoundMethods.{IsFound, 
 use Rattle.interpreter.specs.name_tables.declared.ids.MethodId.{MethodId}
 use Rattle.interpreter.specs.name_tables.Numbers.{declarations, method_at}
 use Rattle.interpreter.specs.resolved_code.ById.{class_name}
-use Rattle.interpreter.specs.resolved_code.Resolved.{IsMethod}
+use Rattle.interpreter.specs.resolved_code.ResolvedPrograms.{IsMethod}
 use Rattle.simulation.proofs.ProgramSizes.ClassesAndFields.{class_number_small, slots_few}
 use Rattle.simulation.proofs.ProgramSizes.Methods.{arguments_few, locals_few}
 use Rattle.interpreter.specs.loaded_program.AllMethods.{all_methods}
 use Rattle.interpreter.specs.loaded_program.MethodNumbers.{number_of}
-use Rattle.interpreter.specs.loaded_program.Prepared.{local_kinds}
+use Rattle.interpreter.specs.loaded_program.LocalKinds.{local_kinds}
 use Rattle.interpreter.proofs.loaded_program.NumberLaws.{declared_has_id}
 use Rattle.interpreter.specs.loaded_program.Operands.{class_in, slots_at}
 use Rattle.simulation.proofs.Memory.InitialValues.{locals_low}

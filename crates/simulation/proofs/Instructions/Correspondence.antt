@@ -9,11 +9,11 @@ use Rattle.interpreter.specs.reference_machine.Values.{Value as StateValue}
 use Rattle.interpreter.specs.reference_machine.Rooms.{cell_words}
 use Rattle.interpreter.specs.reference_machine.States.{Contents, Frame, State, with_birth}
 use Rattle.simulation.specs.Counts.{IsCounted}
-use Rattle.interpreter.specs.reference_machine.Effects.{Setting, Effect as StateEffect, Goes, Blocks as StateBlocks, Raises as StateRaises}
+use Rattle.interpreter.specs.reference_machine.Effects.{StepContext, Effect as StateEffect, Goes, Blocks as StateBlocks, Raises as StateRaises}
 use Rattle.interpreter.specs.reference_machine.BuiltIn.{Action, Start, Join, act}
 use Rattle.interpreter.specs.reference_machine.Steps.{execute}
 use Rattle.reference_machine.proofs.TypedStates.RunningFrames.{IsRunning}
-use Rattle.interpreter.specs.resolved_code.Resolved.{IsOperation}
+use Rattle.interpreter.specs.resolved_code.ResolvedPrograms.{IsOperation}
 use Rattle.interpreter.specs.resolved_code.declared.operations.Operation.{Operation}
 use Rattle.interpreter.specs.object_memory.declared.addresses.Addr.{Addr}
 use Rattle.interpreter.specs.object_memory.declared.values.Value.{Value}
@@ -34,7 +34,7 @@ use Rattle.simulation.proofs.Memory.MemoryModels.{MemoryModel, IsModelled, mutat
 
 -- A machine is where the reference machine is: at the same instruction, with the frames of the thread and all else that an
 -- instruction touches, of a typed state.
-pub record IsSetting (here : Setting) (model : MemoryModel here.tree) (name : Names) (m : Frames) (o : Objects) (statics : List Value) (printed : List ℕ)
+pub record IsSetting (here : StepContext) (model : MemoryModel here.tree) (name : Names) (m : Frames) (o : Objects) (statics : List Value) (printed : List ℕ)
     (s : State) (f : Frame) (below : List Frame) (i : Instruction) (operation : Operation) : Type 0 where
   pub running : IsRunning here s f below i
   pub counted : IsCounted here.limits s
@@ -65,7 +65,7 @@ pub refused_fault : (x : Fault) → is_refused_fault x ≡ true → StateRaises 
 refused_fault OutOfMemory h = refl
 refused_fault _ h = never h
 
-module _ (here : Setting) (model : MemoryModel here.tree) (name : Names) (m : Frames) (o : Objects) (statics : List Value) (printed : List ℕ) (s : State) (f : Frame) (below : List Frame) where
+module _ (here : StepContext) (model : MemoryModel here.tree) (name : Names) (m : Frames) (o : Objects) (statics : List Value) (printed : List ℕ) (s : State) (f : Frame) (below : List Frame) where
   -- the thread continues with the same frames, in the same memory, in which nothing lost its name
   pub record GoesAlike (a : Answer) (e : StateEffect) : Type 0 where
     pub running : Frame
@@ -120,6 +120,6 @@ module _ (here : Setting) (model : MemoryModel here.tree) (name : Names) (m : Fr
 -- each instruction does, in each kind of memory
 abbrev pub InstructionsAreAlike : Type 1
 InstructionsAreAlike =
-    (here : Setting) (model : MemoryModel here.tree) (name : Names) (m : Frames) (o : Objects) (statics : List Value) (printed : List ℕ) (s : State) (f : Frame) (below : List Frame) (i : Instruction) (operation : Operation) →
+    (here : StepContext) (model : MemoryModel here.tree) (name : Names) (m : Frames) (o : Objects) (statics : List Value) (printed : List ℕ) (s : State) (f : Frame) (below : List Frame) (i : Instruction) (operation : Operation) →
     IsSetting here model name m o statics printed s f below i operation →
     DoesAlike here model name m o statics printed s f below (operation_transition here.tree (mutator_in here model) operation m o statics printed) (execute here s f below i)

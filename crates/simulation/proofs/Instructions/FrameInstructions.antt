@@ -17,7 +17,7 @@ use Rattle.interpreter.specs.cil_model.Mentions.{literals_of}
 use Rattle.interpreter.specs.reference_machine.Values.{Literal, Reference, Value as StateValue, same_kind}
 use Rattle.interpreter.specs.reference_machine.Arithmetic.{binary_value, unary_value, shift_value, compare_values, branch_values, is_set as is_set_value, not_option, convert_32, convert_64, one_or_zero as one_or_zero_value}
 use Rattle.interpreter.specs.reference_machine.States.{Frame as StateFrame, State, same_kind_or_none}
-use Rattle.interpreter.specs.reference_machine.Effects.{Setting, Goes, when_some as given_value, unless_fault, after, Effect as StateEffect, Raises as StateRaises, Sticks}
+use Rattle.interpreter.specs.reference_machine.Effects.{StepContext, Goes, when_some as given_value, unless_fault, after, Effect as StateEffect, Raises as StateRaises, Sticks}
 use Rattle.interpreter.specs.reference_machine.Steps.{next, branch_if as branch_to, store_at as stored_value, switch_on as switch_labels, execute, jump as jump_to, to_label}
 use Rattle.interpreter.specs.resolved_code.declared.operations.Operation.{Operation}
 use Rattle.interpreter.specs.resolved_code.declared.operations.Operation.TheVariants as Resolved
@@ -55,7 +55,7 @@ use Rattle.interpreter.proofs.cil_model.Lists.{none_is_some}
 
 -- ---- A frame continues with what was computed of its operands alike on both machines.
 
-module _ (here : Setting) (model : MemoryModel here.tree) (name : Names) (m : Frames) (o : Objects) (statics : List Value) (printed : List ℕ) (s : State) (f : StateFrame) (below : List StateFrame) (i : Instruction) (operation : Operation)
+module _ (here : StepContext) (model : MemoryModel here.tree) (name : Names) (m : Frames) (o : Objects) (statics : List Value) (printed : List ℕ) (s : State) (f : StateFrame) (below : List StateFrame) (i : Instruction) (operation : Operation)
     (at : IsSetting here model name m o statics printed s f below i operation) where
   -- both do the same
   abbrev pub Alike : Transition → StateEffect → Type 0
@@ -242,7 +242,7 @@ module _ (here : Setting) (model : MemoryModel here.tree) (name : Names) (m : Fr
 
 -- ---- Instructions that touch frames alone do the same on both machines.
 
-module _ (here : Setting) (model : MemoryModel here.tree) (name : Names) (m : Frames) (o : Objects) (statics : List Value) (printed : List ℕ) (s : State) (f : StateFrame) (below : List StateFrame) where
+module _ (here : StepContext) (model : MemoryModel here.tree) (name : Names) (m : Frames) (o : Objects) (statics : List Value) (printed : List ℕ) (s : State) (f : StateFrame) (below : List StateFrame) where
   -- a machine at an instruction
   abbrev At : Instruction → Operation → Type 0
   At i operation = IsSetting here model name m o statics printed s f below i operation

@@ -14,7 +14,7 @@ use Rattle.interpreter.specs.cil_model.Legality.{IsLegal}
 use Rattle.interpreter.specs.cil_model.Typings.{AreBelow}
 use Rattle.interpreter.specs.reference_machine.Values.{Value as StateValue}
 use Rattle.interpreter.specs.reference_machine.States.{Frame as StateFrame, State}
-use Rattle.interpreter.specs.reference_machine.Effects.{Setting, Goes, after, onward as onward_frame}
+use Rattle.interpreter.specs.reference_machine.Effects.{StepContext, Goes, after, onward as onward_frame}
 use Rattle.reference_machine.specs.TypedStates.{HaveTypes, HaveStackTypes, IsTypedFrame}
 use Rattle.interpreter.specs.resolved_code.declared.operations.Operation.{Operation}
 use Rattle.interpreter.specs.object_memory.declared.values.Value.{Value}
@@ -83,7 +83,7 @@ module _ (tree : Tree) (legal : IsLegal tree) (s : State) (given : Option Declar
       let three : length m.stack ≡ length f.stack = agree_length (IsValue name) m.stack f.stack h.stack in
       omega (arith, one, two, three, arguments_are_few, locals_are_few, stack_is_low)
 
-module _ (here : Setting) (model : MemoryModel here.tree) (name : Names) (m : Frames) (o : Objects) (statics : List Value) (printed : List ℕ) (s : State) (f : StateFrame) (below : List StateFrame) (i : Instruction) (operation : Operation)
+module _ (here : StepContext) (model : MemoryModel here.tree) (name : Names) (m : Frames) (o : Objects) (statics : List Value) (printed : List ℕ) (s : State) (f : StateFrame) (below : List StateFrame) (i : Instruction) (operation : Operation)
     (at : IsSetting here model name m o statics printed s f below i operation) where
   pub own_frame : IsFrame here.tree name m.running f
   own_frame = at.frames.frames.0

@@ -11,12 +11,12 @@ use Rattle.interpreter.specs.cil_model.Fields.{FieldKey, same_key}
 use Rattle.interpreter.specs.name_tables.declared.ids.FieldId.{FieldId}
 use Rattle.interpreter.specs.reference_machine.Values.{ObjectName, Value as StateValue, same_kind}
 use Rattle.interpreter.specs.reference_machine.States.{Contents, Instance as IsInstance, Array as IsArray, HeapObject, Frame as StateFrame, State, entry_at, with_entry, same_kind_or_none, replaced_entry, object_at, with_object, fields_of_contents, with_fields, field_value, with_field}
-use Rattle.interpreter.specs.reference_machine.Effects.{Setting, when_some as state_given, not_null, onward as onward_frame}
+use Rattle.interpreter.specs.reference_machine.Effects.{StepContext, when_some as state_given, not_null, onward as onward_frame}
 use Rattle.interpreter.specs.reference_machine.Steps.{execute, key_of, next}
 use Rattle.interpreter.specs.reference_machine.TypedStates.{IsTypedContents}
 use Rattle.interpreter.proofs.reference_machine.TypedStates.StateChanges.{contents_typed}
 use Rattle.interpreter.specs.resolved_code.ById.{class_name}
-use Rattle.interpreter.specs.resolved_code.Resolved.{IsField}
+use Rattle.interpreter.specs.resolved_code.ResolvedPrograms.{IsField}
 use Rattle.interpreter.specs.resolved_code.declared.operations.Operation.{Operation}
 use Rattle.interpreter.specs.resolved_code.declared.operations.Operation.TheVariants as Resolved
 use Rattle.interpreter.specs.object_memory.declared.addresses.Addr.{Addr}
@@ -33,7 +33,7 @@ use Rattle.interpreter.specs.instructions.ObjectTransitions.{object_of, load_slo
 use Rattle.interpreter.specs.loaded_program.declared.instructions.LinkedInstruction.TheVariants as Linked
 use Rattle.interpreter.specs.Instructions.{operation_transition, of_objects}
 use Rattle.interpreter.proofs.LinkedTransitions.{link_does}
-use Rattle.interpreter.specs.loaded_program.Operands.{held_at}
+use Rattle.interpreter.specs.loaded_program.Operands.{field_kind_at}
 use Rattle.simulation.specs.Agreement.{Agree}
 use Rattle.simulation.specs.Refines.{Names, IsValue, IsWord, thread_word, IsInstanceCell, IsOfContents, IsCell}
 use Rattle.simulation.proofs.ListLaws.AgreeingLists.{agree_get, agree_set}
@@ -105,7 +105,7 @@ stored_in s n k v s' is = by_object (object_at s n) refl is
     by_object None there e = none_is_some s' e
     by_object (Some object) there e = by_contents object there object.contents refl e
 
-module _ (here : Setting) (model : MemoryModel here.tree) (name : Names) (m : Frames) (o : Objects) (statics : List Value) (printed : List ℕ) (s : State) (f : StateFrame) (below : List StateFrame) where
+module _ (here : StepContext) (model : MemoryModel here.tree) (name : Names) (m : Frames) (o : Objects) (statics : List Value) (printed : List ℕ) (s : State) (f : StateFrame) (below : List StateFrame) where
   module _ (i : Instruction) (operation : Operation) (at : IsSetting here model name m o statics printed s f below i operation) (r : FieldReference) (field : FieldId) (is : IsField here.tree false r field) where
     abbrev own_key : FieldKey
     own_key = key_of (is.declared_in, is.found)
@@ -210,7 +210,7 @@ module _ (here : Setting) (model : MemoryModel here.tree) (name : Names) (m : Fr
         let number : ℕ = slot here.tree at.running.accepted.legal r field finds in
         alike_transition here model name m o statics printed s f below (Named.LoadField r) (Resolved.LoadField owner field) at _ (of_objects o statics printed (load_field_transition kind number m o)) _
         (link_does here.tree (mutator_in here model) m o statics printed (Resolved.LoadField owner field) (Linked.LoadField number kind)
-        (ap (option_and_then (λ n. option_map (λ k. Linked.LoadField n k) (held_at here.tree field))) slot_there ∙ ap (option_map (λ k. Linked.LoadField number k)) kind_there))
+        (ap (option_and_then (λ n. option_map (λ k. Linked.LoadField n k) (field_kind_at here.tree field))) slot_there ∙ ap (option_map (λ k. Linked.LoadField number k)) kind_there))
         (one_operand here model name m o statics printed s f below (Named.LoadField r) (Resolved.LoadField owner field) at (of_objects o statics printed)
         (λ object k. object_of object k o (λ a. load_slot kind number a k o))
         (λ object rest. state_given (find_field here.tree false r) (λ found. not_null object NullReference (λ n. state_given (field_value s n (key_of found)) (λ v. next here s f below (v ∷ rest)))))

@@ -12,12 +12,12 @@ use Rattle.interpreter.specs.cil_model.Fields.{slot_types, FieldKey, instance_fi
 use Rattle.interpreter.specs.cil_model.Legality.{IsLegal}
 use Rattle.interpreter.specs.reference_machine.Values.{ObjectName, Value as StateValue, Reference}
 use Rattle.interpreter.specs.reference_machine.States.{Contents, Frame as StateFrame, State, next_name, with_birth as with_state_birth, new_instance}
-use Rattle.interpreter.specs.reference_machine.Effects.{Setting, Effect as StateEffect, Goes, Sticks, Raises as StateRaises, when_some as state_given, are_of_kinds, after, new_frame, onward as state_onward}
+use Rattle.interpreter.specs.reference_machine.Effects.{StepContext, Effect as StateEffect, Goes, Sticks, Raises as StateRaises, when_some as state_given, are_of_kinds, after, new_frame, onward as state_onward}
 use Rattle.interpreter.specs.reference_machine.BuiltIn.{Action, action_of}
 use Rattle.interpreter.specs.reference_machine.Steps.{birth as state_birth, frame_for, is_too_deep, operands, construct, execute}
 use Rattle.interpreter.proofs.reference_machine.TypedStates.RunningFrames.{IsTypedEffect}
 use Rattle.interpreter.specs.name_tables.declared.ids.MethodId.{MethodId}
-use Rattle.interpreter.specs.resolved_code.Resolved.{IsMethod}
+use Rattle.interpreter.specs.resolved_code.ResolvedPrograms.{IsMethod}
 use Rattle.interpreter.specs.resolved_code.declared.operations.Operation.TheVariants as Resolved
 use Rattle.interpreter.specs.object_memory.declared.addresses.Addr.{Addr}
 use Rattle.interpreter.specs.object_memory.declared.kinds.Kind.TheVariants.{Instance}
@@ -30,12 +30,12 @@ use Rattle.interpreter.specs.loaded_program.MethodNumbers.{number_of}
 use Rattle.interpreter.specs.threads_monitors.Frames.{Frames, with_pc, with_stack, size, with_inserted, with_call}
 use Rattle.interpreter.specs.threads_monitors.declared.effects.Effect.TheVariants.{Continues, Raises}
 use Rattle.interpreter.specs.instructions.Frames.{when_some}
-use Rattle.interpreter.specs.instructions.ObjectTransitions.{ObjectTransition, bears, beside, birth_transition as born_transition}
-use Rattle.interpreter.specs.instructions.Calls.{constructs, is_full, new_object_transition, new_plain_object_transition, Called, following, enter_callee, construct_transition}
+use Rattle.interpreter.specs.instructions.ObjectTransitions.{ObjectTransition, allocate_then, with_objects, birth_transition as born_transition}
+use Rattle.interpreter.specs.instructions.Calls.{enter_constructor, is_full, new_object_transition, new_plain_object_transition, CalledMethod, at_next_pc, enter_callee, construct_transition}
 use Rattle.interpreter.specs.declared.outcomes.InstructionOutcome.TheVariants.{OwnEffect}
 use Rattle.interpreter.specs.Instructions.{MachineTransition, operation_transition, Answer, answer_of, of_objects}
 use Rattle.interpreter.proofs.LinkedTransitions.{new_does}
-use Rattle.interpreter.specs.Calls.{called_as, make_object}
+use Rattle.interpreter.specs.Calls.{called_method, make_object}
 use Rattle.simulation.specs.Refines.{Names, reference, hidden_words, IsOfContents, IsValue, IsFrame, AreFrames}
 use Rattle.simulation.proofs.Representation.MoreNames.{values_extend, frame_list_extends, object_extends}
 use Rattle.simulation.proofs.Instructions.Correspondence.{IsSetting, GoesAlike, DoesAlike}
@@ -54,7 +54,7 @@ use Rattle.simulation.proofs.Memory.InitialValues.{words_refine, locals_refine}
 use Rattle.std.specs.Prelude.{nat_lt, ◌==◌}
 use Rattle.std.proofs.lemmas.Bool.{and_from, leb-true, lt-ltb, le-leb}
 use Rattle.std.proofs.lemmas.Bool.Decides.{nat_tests}
-use Rattle.interpreter.specs.loaded_program.Prepared.{local_kinds}
+use Rattle.interpreter.specs.loaded_program.LocalKinds.{local_kinds}
 use Rattle.simulation.specs.Agreement.{Agree}
 use Rattle.simulation.specs.MachineStates.{frame_room}
 use Rattle.simulation.proofs.ListLaws.AgreeingLists.{agree_length, agree_take, agree_drop, agree_reverse}
@@ -99,7 +99,7 @@ full_is_deep n depth h = grind (arith, nat_tests)
 not_full : (n depth : ℕ) → n + 1 ≤ depth → (n + 1 == depth) ≡ false → n + 1 < depth
 not_full n depth h k = grind (arith, nat_tests, h, k)
 
-module _ (here : Setting) (model : MemoryModel here.tree) (name : Names) (m : Frames) (o : Objects) (statics : List Value) (printed : List ℕ) (s : State) (f : StateFrame) (below : List StateFrame)
+module _ (here : StepContext) (model : MemoryModel here.tree) (name : Names) (m : Frames) (o : Objects) (statics : List Value) (printed : List ℕ) (s : State) (f : StateFrame) (below : List StateFrame)
     (c : ClassName) (parameters : List DeclaredType) (number : MethodId) (is : IsMethod here.tree true (constructor_reference c parameters) number)
     (at : IsSetting here model name m o statics printed s f below (Named.NewObject c parameters) (Resolved.NewObject number)) where
   abbrev legal_tree : IsLegal here.tree
@@ -165,12 +165,12 @@ module _ (here : Setting) (model : MemoryModel here.tree) (name : Names) (m : Fr
         and_from _ _ (and_from _ _ shallow there) (le-leb (argument_count + length (local_kinds own_constructor)) m.room low)
 
     -- the constructor's frame is entered
-    pub constructs_is : construct_transition (called_as (c, own_constructor) (constructor_has_id here.tree legal_tree c parameters number is).0) a m ≡ Some (frames_in, Continues)
+    pub constructs_is : construct_transition (called_method (c, own_constructor) (constructor_has_id here.tree legal_tree c parameters number is).0) a m ≡ Some (frames_in, Continues)
     constructs_is =
-        let callee : Called = called_as (c, own_constructor) (constructor_has_id here.tree legal_tree c parameters number is).0 in
+        let callee : CalledMethod = called_method (c, own_constructor) (constructor_has_id here.tree legal_tree c parameters number is).0 in
         let fewer : argument_count - 1 ≡ length parameters = omega (arith, counted) in
-        ap (λ n. if nat_lt 0 argument_count && (nat_lt (size m.running) m.room && nat_le n (length m.running.stack)) then following (with_inserted m n (Ref a)) (enter_callee callee (Some a)) else None) fewer ∙
-        ap (λ b. if b then following (with_inserted m (length parameters) (Ref a)) (enter_callee callee (Some a)) else None) object_fits ∙
+        ap (λ n. if nat_lt 0 argument_count && (nat_lt (size m.running) m.room && nat_le n (length m.running.stack)) then at_next_pc (with_inserted m n (Ref a)) (enter_callee callee (Some a)) else None) fewer ∙
+        ap (λ b. if b then at_next_pc (with_inserted m (length parameters) (Ref a)) (enter_callee callee (Some a)) else None) object_fits ∙
         ap (λ b. if b then enter_callee callee (Some a) caller else None) (index_is_small here model name m o statics printed s f below (Named.NewObject c parameters) (Resolved.NewObject number) at) ∙
         ap (λ b. if b then Some (frames_in, Continues) else None) frame_fits
 
@@ -263,23 +263,23 @@ by_birth tree model name o statics s fits k n P refused given = by_answer (objec
     by_answer (born, None) e = let refusal = model.refusals name o statics s fits k n born e in subst (λ p. P (p, None)) (sym refusal.0) (refused refusal.1)
 
 -- where memory isn't refused the reference machine continues with the object
-pub birth_goes : (here : Setting) (s : State) (f : StateFrame) (below : List StateFrame) (contents : Contents) (go : ObjectName → State → StateEffect) → here.is_refused ≡ false →
+pub birth_goes : (here : StepContext) (s : State) (f : StateFrame) (below : List StateFrame) (contents : Contents) (go : ObjectName → State → StateEffect) → here.is_refused ≡ false →
     state_birth here s f below contents go ≡ go (next_name s) (with_state_birth s contents)
 birth_goes here s f below contents go r = ap (λ b. if b then StateRaises OutOfMemory else go (next_name s) (with_state_birth s contents)) r
 
 -- the memory is one of the same kind, under the names that there are then
-pub memory_after : (here : Setting) (model : MemoryModel here.tree) (name : Names) (o : Objects) (statics : List Value) (printed : List ℕ) (s : State) → IsModelled here.tree model name o statics printed s →
+pub memory_after : (here : StepContext) (model : MemoryModel here.tree) (name : Names) (o : Objects) (statics : List Value) (printed : List ℕ) (s : State) → IsModelled here.tree model name o statics printed s →
     (contents : Contents) (born : Objects) (a : Addr) (birth : IsBirth model.Fits name statics s contents born a) → IsModelled here.tree model birth.names born statics printed (with_state_birth s contents)
 memory_after here model name o statics printed s memory contents born a birth = record { fits = birth.fits; printed_is = memory.printed_is }
 
 -- ---- newobj does the same on a machine as on the reference machine (III.4.21).
 
 -- what doesn't stick passed its test
-not_stuck : (here : Setting) (b : Bool) (e : StateEffect) → IsTypedEffect here.tree (if b then e else Sticks) → b ≡ true
+not_stuck : (here : StepContext) (b : Bool) (e : StateEffect) → IsTypedEffect here.tree (if b then e else Sticks) → b ≡ true
 not_stuck here true e t = refl
 not_stuck here false e t = elim t [ ]
 
-module _ (here : Setting) (model : MemoryModel here.tree) (name : Names) (m : Frames) (o : Objects) (statics : List Value) (printed : List ℕ) (s : State) (f : StateFrame) (below : List StateFrame)
+module _ (here : StepContext) (model : MemoryModel here.tree) (name : Names) (m : Frames) (o : Objects) (statics : List Value) (printed : List ℕ) (s : State) (f : StateFrame) (below : List StateFrame)
     (c : ClassName) (parameters : List DeclaredType) (number : MethodId) (is : IsMethod here.tree true (constructor_reference c parameters) number)
     (at : IsSetting here model name m o statics printed s f below (Named.NewObject c parameters) (Resolved.NewObject number)) where
   abbrev legal : IsLegal here.tree
@@ -377,7 +377,7 @@ module _ (here : Setting) (model : MemoryModel here.tree) (name : Names) (m : Fr
   }
 
   -- a thread of this phase can bear
-  bears_alike : (go : Objects × Option Addr → ObjectTransition) (e : StateEffect) → Alike (go (object_born model.phase o (Instance number.class) slots)) e → Alike (bears model.phase o (Instance number.class) slots go) e
+  bears_alike : (go : Objects × Option Addr → ObjectTransition) (e : StateEffect) → Alike (go (object_born model.phase o (Instance number.class) slots)) e → Alike (allocate_then model.phase o (Instance number.class) slots go) e
   bears_alike go e h = subst (λ b. Alike (if b then go (object_born model.phase o (Instance number.class) slots) else None) e) (sym (model.bears name o statics s at.memory.fits)) h
 
   -- an object that was born
@@ -396,7 +396,7 @@ module _ (here : Setting) (model : MemoryModel here.tree) (name : Names) (m : Fr
       let answer : Answer = (answer_of (with_pc (with_stack m (Ref a ∷ m.running.stack)) (m.running.pc + 1)) birth_transition statics printed (OwnEffect Continues)) in
       record {
         answer = answer;
-        is = ap (λ transition. as_transition (beside birth_transition transition)) (leaves_is here model name m o statics printed s f below (Named.NewObject c parameters) (Resolved.NewObject number) at (Ref a) m.running.stack (omega arith));
+        is = ap (λ transition. as_transition (with_objects birth_transition transition)) (leaves_is here model name m o statics printed s f below (Named.NewObject c parameters) (Resolved.NewObject number) at (Ref a) m.running.stack (omega arith));
         refuses = λ _ h. never h;
         alike = λ r. subst (λ e'. GoesAlike here model name m o statics printed s f below answer e') (sym (birth_goes here s f below contents pushed r))
             (onward_alike here model name m o statics printed s f below (Named.NewObject c parameters) (Resolved.NewObject number) at birth.names birth.extends birth_transition statics printed (with_state_birth s contents) refl
@@ -414,11 +414,11 @@ module _ (here : Setting) (model : MemoryModel here.tree) (name : Names) (m : Fr
 
   module _ (deep : is_full m ≡ false) (typed_birth : IsTypedEffect here.tree (state_birth here s f below contents entered_by)) where
     framed_born : (birth_transition : Objects) (a : Addr) → object_born model.phase o (Instance number.class) slots ≡ (birth_transition, Some a) →
-        Alike (constructs (called_as (c, built) (constructor_has_id here.tree legal c parameters number is).0) m (birth_transition, Some a)) (state_birth here s f below contents entered_by)
+        Alike (enter_constructor (called_method (c, built) (constructor_has_id here.tree legal c parameters number is).0) m (birth_transition, Some a)) (state_birth here s f below contents entered_by)
     framed_born birth_transition a e =
         record {
           answer = answer;
-          is = ap (λ transition. as_transition (beside birth_transition transition)) (constructs_is here model name m o statics printed s f below c parameters number is at enough deep a);
+          is = ap (λ transition. as_transition (with_objects birth_transition transition)) (constructs_is here model name m o statics printed s f below c parameters number is at enough deep a);
           refuses = λ _ h. never h;
           alike = λ r. subst (λ e'. GoesAlike here model name m o statics printed s f below answer e') (sym (birth_goes here s f below contents entered_by r))
               (by_code (code_of built.kind) refl (subst (IsTypedEffect here.tree) (birth_goes here s f below contents entered_by r) typed_birth));
@@ -458,36 +458,36 @@ module _ (here : Setting) (model : MemoryModel here.tree) (name : Names) (m : Fr
         by_code None t = elim t [ ]
         by_code (Some code) t = (new_frame c built code (Reference (next_name s) ∷ arguments) (Some (next_name s)), after f rest ∷ below, refl)
 
-    framed_alike : Alike (bears model.phase o (Instance number.class) slots (constructs (called_as (c, built) (constructor_has_id here.tree legal c parameters number is).0) m)) (state_birth here s f below contents entered_by)
+    framed_alike : Alike (allocate_then model.phase o (Instance number.class) slots (enter_constructor (called_method (c, built) (constructor_has_id here.tree legal c parameters number is).0) m)) (state_birth here s f below contents entered_by)
     framed_alike =
-        bears_alike (constructs (called_as (c, built) (constructor_has_id here.tree legal c parameters number is).0) m) (state_birth here s f below contents entered_by)
-        (by_birth here.tree model name o statics s at.memory.fits (Instance number.class) slots (λ w. Alike (constructs (called_as (c, built) (constructor_has_id here.tree legal c parameters number is).0) m w) (state_birth here s f below contents entered_by)) (refused entered_by enters) framed_born)
+        bears_alike (enter_constructor (called_method (c, built) (constructor_has_id here.tree legal c parameters number is).0) m) (state_birth here s f below contents entered_by)
+        (by_birth here.tree model name o statics s at.memory.fits (Instance number.class) slots (λ w. Alike (enter_constructor (called_method (c, built) (constructor_has_id here.tree legal c parameters number is).0) m w) (state_birth here s f below contents entered_by)) (refused entered_by enters) framed_born)
 
   -- ---- either
 
   -- the depth is looked at before memory
   by_depth : (b : Bool) → is_full m ≡ b →
       IsTypedEffect here.tree (if b then StateRaises StackOverflow else state_birth here s f below contents entered_by) →
-      Alike (if b then Some (m, o, Raises StackOverflow) else bears model.phase o (Instance number.class) slots (constructs (called_as (c, built) (constructor_has_id here.tree legal c parameters number is).0) m))
+      Alike (if b then Some (m, o, Raises StackOverflow) else allocate_then model.phase o (Instance number.class) slots (enter_constructor (called_method (c, built) (constructor_has_id here.tree legal c parameters number is).0) m))
       (if b then StateRaises StackOverflow else state_birth here s f below contents entered_by)
   by_depth true deep t = too_deep
   by_depth false deep t = framed_alike deep t
 
   -- in the method of its number
   by_number : IsTypedEffect here.tree (if is_too_deep here s f below then StateRaises StackOverflow else state_birth here s f below contents entered_by) →
-      Alike (when_some (number_of here.tree (c, built)) (λ n. new_object_transition model.phase number.class slots (called_as (c, built) n) m o)) (if is_too_deep here s f below then StateRaises StackOverflow else state_birth here s f below contents entered_by)
+      Alike (when_some (number_of here.tree (c, built)) (λ n. new_object_transition model.phase number.class slots (called_method (c, built) n) m o)) (if is_too_deep here s f below then StateRaises StackOverflow else state_birth here s f below contents entered_by)
   by_number t =
       let framed : Bool → StateEffect = λ b. if b then StateRaises StackOverflow else state_birth here s f below contents entered_by in
       let same : is_full m ≡ is_too_deep here s f below = depth_is here model name m o statics printed s f below c parameters number is at in
       let own = constructor_has_id here.tree legal c parameters number is in
-      subst (λ x. Alike (when_some x (λ n. new_object_transition model.phase number.class slots (called_as (c, built) n) m o)) (framed (is_too_deep here s f below))) (sym own.1)
-      (subst (λ b. Alike (new_object_transition model.phase number.class slots (called_as (c, built) own.0) m o) (framed b)) same
+      subst (λ x. Alike (when_some x (λ n. new_object_transition model.phase number.class slots (called_method (c, built) n) m o)) (framed (is_too_deep here s f below))) (sym own.1)
+      (subst (λ b. Alike (new_object_transition model.phase number.class slots (called_method (c, built) own.0) m o) (framed b)) same
       (by_depth (is_full m) refl (subst (λ b. IsTypedEffect here.tree (framed b)) (sym same) t)))
 
   by_action : (x : Option Action) → action_of c built ≡ x →
       IsTypedEffect here.tree (if is_some x then state_birth here s f below contents (λ n s'. state_onward f below s' (Reference n ∷ rest))
       else if is_too_deep here s f below then StateRaises StackOverflow else state_birth here s f below contents entered_by) →
-      Alike (option_map_or (λ (a : Action). new_plain_object_transition model.phase number.class slots m o) x (when_some (number_of here.tree (c, built)) (λ n. new_object_transition model.phase number.class slots (called_as (c, built) n) m o)))
+      Alike (option_map_or (λ (a : Action). new_plain_object_transition model.phase number.class slots m o) x (when_some (number_of here.tree (c, built)) (λ n. new_object_transition model.phase number.class slots (called_method (c, built) n) m o)))
       (if is_some x then state_birth here s f below contents (λ n s'. state_onward f below s' (Reference n ∷ rest))
       else if is_too_deep here s f below then StateRaises StackOverflow else state_birth here s f below contents entered_by)
   by_action (Some a) acts t =

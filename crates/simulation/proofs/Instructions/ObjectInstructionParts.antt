@@ -11,7 +11,7 @@ use Rattle.interpreter.specs.cil_model.declared.types.DeclaredType.{DeclaredType
 use Rattle.interpreter.specs.reference_machine.Values.{ObjectName, Born, Value as StateValue}
 use Rattle.interpreter.specs.reference_machine.States.{HeapObject, Frame as StateFrame, State, array_at, with_object}
 use Rattle.interpreter.specs.reference_machine.Arithmetic.{as_index}
-use Rattle.interpreter.specs.reference_machine.Effects.{Setting, Effect as StateEffect, Raises as StateRaises, Sticks, when_some as state_given, not_null, onward as onward_frame}
+use Rattle.interpreter.specs.reference_machine.Effects.{StepContext, Effect as StateEffect, Raises as StateRaises, Sticks, when_some as state_given, not_null, onward as onward_frame}
 use Rattle.interpreter.specs.reference_machine.Steps.{element, in_range as state_in_range}
 use Rattle.interpreter.proofs.reference_machine.TypedStates.RunningFrames.{IsTypedEffect}
 use Rattle.interpreter.specs.resolved_code.declared.operations.Operation.{Operation}
@@ -26,7 +26,7 @@ use Rattle.interpreter.specs.instructions.barriers.Barriers.{is_storable, stored
 use Rattle.interpreter.specs.threads_monitors.Frames.{Frames, with_pc, with_stack}
 use Rattle.interpreter.specs.threads_monitors.declared.effects.Effect.TheVariants.{Continues, Raises}
 use Rattle.interpreter.specs.instructions.Frames.{when_some, onward, value_pushed}
-use Rattle.interpreter.specs.instructions.ObjectTransitions.{ObjectTransition, beside, object_of, index_in, index_of, slots_of, load_slot, store_slot, checked_index, in_range}
+use Rattle.interpreter.specs.instructions.ObjectTransitions.{ObjectTransition, with_objects, object_of, index_in, index_of, slots_of, load_slot, store_slot, checked_index, in_range}
 use Rattle.interpreter.specs.declared.outcomes.InstructionOutcome.TheVariants.{OwnEffect}
 use Rattle.interpreter.specs.Instructions.{MachineTransition, of_objects, answer_of}
 use Rattle.simulation.specs.Agreement.{Agree}
@@ -41,7 +41,7 @@ use Rattle.interpreter.proofs.cil_model.Lists.{none_is_outside}
 use Rattle.simulation.proofs.Memory.ReferenceSlots.{IsLinked}
 use Rattle.simulation.proofs.Memory.MemoryModels.{MemoryModel, IsModelled}
 
-module _ (here : Setting) (model : MemoryModel here.tree) (name : Names) (m : Frames) (o : Objects) (statics : List Value) (printed : List ℕ) (s : State) (f : StateFrame) (below : List StateFrame) (i : Instruction) (operation : Operation)
+module _ (here : StepContext) (model : MemoryModel here.tree) (name : Names) (m : Frames) (o : Objects) (statics : List Value) (printed : List ℕ) (s : State) (f : StateFrame) (below : List StateFrame) (i : Instruction) (operation : Operation)
     (at : IsSetting here model name m o statics printed s f below i operation) where
   -- the machine does what the reference machine does
   abbrev pub Alike : MachineTransition → StateEffect → Type 0
@@ -78,20 +78,20 @@ module _ (here : Setting) (model : MemoryModel here.tree) (name : Names) (m : Fr
 
   -- a value is left
   pub left_alike : (v : Value) (u : StateValue) → IsValue name v u → (rest : List Value) (rest' : List StateValue) → Agree (IsValue name) rest rest' → length rest ≤ length m.running.stack →
-      Alike (objects_transition (beside o (value_pushed v (with_stack m rest)))) (onward_frame f below s (u ∷ rest'))
+      Alike (objects_transition (with_objects o (value_pushed v (with_stack m rest)))) (onward_frame f below s (u ∷ rest'))
   left_alike v u is rest rest' k shorter = record {
     answer = answer_of (with_pc (with_stack m (v ∷ rest)) (m.running.pc + 1)) o statics printed (OwnEffect Continues);
-    is = ap (λ t. objects_transition (beside o t)) (leaves_is here model name m o statics printed s f below i operation at v rest shorter);
+    is = ap (λ t. objects_transition (with_objects o t)) (leaves_is here model name m o statics printed s f below i operation at v rest shorter);
     refuses = λ _ h. never h;
     alike = λ r. next_alike here model name m o statics printed s f below i operation at (v ∷ rest) (u ∷ rest') (is, k);
   }
 
   -- another memory is left
   stored_alike : (o' : Objects) (s' : State) → s'.threads ≡ s.threads → IsModelled here.tree model name o' statics printed s' → (rest : List Value) (rest' : List StateValue) → Agree (IsValue name) rest rest' →
-      Alike (objects_transition (beside o' (onward (with_stack m rest)))) (onward_frame f below s' rest')
+      Alike (objects_transition (with_objects o' (onward (with_stack m rest)))) (onward_frame f below s' rest')
   stored_alike o' s' others memory rest rest' k = record {
     answer = answer_of (with_pc (with_stack m rest) (m.running.pc + 1)) o' statics printed (OwnEffect Continues);
-    is = ap (λ t. objects_transition (beside o' t)) (onward_is here model name m o statics printed s f below i operation at rest);
+    is = ap (λ t. objects_transition (with_objects o' t)) (onward_is here model name m o statics printed s f below i operation at rest);
     refuses = λ _ h. never h;
     alike = λ r. onward_alike here model name m o statics printed s f below i operation at name (λ b n is. is) o' statics printed s' others memory rest rest' k;
   }
@@ -115,8 +115,8 @@ module _ (here : Setting) (model : MemoryModel here.tree) (name : Names) (m : Fr
     pub loaded_alike : (kind : ValueKind) (u : StateValue) → IsValue name (value_in kind word) u → (rest : List Value) (rest' : List StateValue) → Agree (IsValue name) rest rest' → length rest ≤ length m.running.stack →
         Alike (objects_transition (load_slot kind slot a (with_stack m rest) o)) (onward_frame f below s (u ∷ rest'))
     loaded_alike kind u refines rest rest' k shorter =
-        alike_transition (objects_transition (load_slot kind slot a (with_stack m rest) o)) (objects_transition (beside o (value_pushed (value_in kind word) (with_stack m rest)))) (onward_frame f below s (u ∷ rest'))
-        (slot_transition (λ w. beside o (value_pushed (value_in kind w) (with_stack m rest)))) (left_alike (value_in kind word) u refines rest rest' k shorter)
+        alike_transition (objects_transition (load_slot kind slot a (with_stack m rest) o)) (objects_transition (with_objects o (value_pushed (value_in kind word) (with_stack m rest)))) (onward_frame f below s (u ∷ rest'))
+        (slot_transition (λ w. with_objects o (value_pushed (value_in kind w) (with_stack m rest)))) (left_alike (value_in kind word) u refines rest rest' k shorter)
 
     -- another value is stored there, and the object changes alike
     pub replaced_alike : (n : ℕ) → name a.number ≡ Some (Born n) → (v : Value) (u : StateValue) → IsValue name v u → is_reference_value v ≡ holds_reference here.tree cell.kind slot → (object : HeapObject) → IsLinked here.tree cell.kind object.contents → IsCell here.tree name (with_cell_slot slot (value_word v) cell) object → (rest : List Value) (rest' : List StateValue) → Agree (IsValue name) rest rest' →
@@ -128,7 +128,7 @@ module _ (here : Setting) (model : MemoryModel here.tree) (name : Names) (m : Fr
         (stored_alike (stored_value model.phase o a slot v) (with_object s (Born n) object) refl (memory_with a n named cell lies slot v u (slice_get_within cell.slots slot word there) sort is object linked refines) rest rest' k)
       where
         stored : ObjectTransition
-        stored = beside (stored_value model.phase o a slot v) (onward (with_stack m rest))
+        stored = with_objects (stored_value model.phase o a slot v) (onward (with_stack m rest))
 
   -- ---- operands
 

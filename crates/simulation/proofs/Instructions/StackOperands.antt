@@ -4,7 +4,7 @@ use Rattle.interpreter.specs.cil_model.declared.instructions.Instruction.{Instru
 use Rattle.interpreter.specs.cil_model.Stacks.{take_one, take_two, take_three}
 use Rattle.interpreter.specs.reference_machine.Values.{Value as StateValue}
 use Rattle.interpreter.specs.reference_machine.States.{Frame as StateFrame, State}
-use Rattle.interpreter.specs.reference_machine.Effects.{Setting, Effect as StateEffect, Sticks}
+use Rattle.interpreter.specs.reference_machine.Effects.{StepContext, Effect as StateEffect, Sticks}
 use Rattle.interpreter.specs.reference_machine.Steps.{execute}
 use Rattle.reference_machine.proofs.TypedStates.RunningFrames.{IsTypedEffect}
 use Rattle.reference_machine.proofs.TypedSteps.AllInstructions.{instruction_typed}
@@ -20,7 +20,7 @@ use Rattle.simulation.proofs.Instructions.Correspondence.{IsSetting, DoesAlike}
 use Rattle.simulation.proofs.Instructions.FrameProgress.{own_frame}
 use Rattle.simulation.proofs.Memory.MemoryModels.{MemoryModel}
 
-module _ (here : Setting) (model : MemoryModel here.tree) (name : Names) (m : Frames) (o : Objects) (statics : List Value) (printed : List ℕ) (s : State) (f : StateFrame) (below : List StateFrame) (i : Instruction) (operation : Operation)
+module _ (here : StepContext) (model : MemoryModel here.tree) (name : Names) (m : Frames) (o : Objects) (statics : List Value) (printed : List ℕ) (s : State) (f : StateFrame) (below : List StateFrame) (i : Instruction) (operation : Operation)
     (at : IsSetting here model name m o statics printed s f below i operation) where
   abbrev Alike : MachineTransition → StateEffect → Type 0
   Alike transition e = DoesAlike here model name m o statics printed s f below transition e

@@ -20,13 +20,13 @@ use Rattle.interpreter.proofs.cil_model.SameLaws.{both_second, same_flag_equal, 
 use Rattle.interpreter.specs.name_tables.declared.ids.FieldId.{FieldId}
 use Rattle.interpreter.specs.reference_machine.Values.{Value as StateValue}
 use Rattle.interpreter.specs.reference_machine.States.{Frame as StateFrame, State, entry_at, replaced_entry}
-use Rattle.interpreter.specs.reference_machine.Effects.{Setting, when_some as state_given, onward as onward_frame}
+use Rattle.interpreter.specs.reference_machine.Effects.{StepContext, when_some as state_given, onward as onward_frame}
 use Rattle.interpreter.specs.reference_machine.Steps.{execute, key_of, next}
 use Rattle.interpreter.specs.reference_machine.TypedStates.{HaveFieldTypes}
 use Rattle.interpreter.proofs.reference_machine.Programs.DeclaredFields.{static_field_there}
 use Rattle.interpreter.proofs.reference_machine.Programs.VirtualTargets.{nearest_at}
 use Rattle.simulation.proofs.ProgramSizes.ClassesAndFields.{static_slot_small}
-use Rattle.interpreter.specs.resolved_code.Resolved.{IsField}
+use Rattle.interpreter.specs.resolved_code.ResolvedPrograms.{IsField}
 use Rattle.interpreter.specs.resolved_code.declared.operations.Operation.{Operation}
 use Rattle.interpreter.specs.resolved_code.declared.operations.Operation.TheVariants as Resolved
 use Rattle.interpreter.specs.object_memory.declared.values.Value.{Value}
@@ -35,7 +35,7 @@ use Rattle.interpreter.specs.instructions.barriers.Barriers.{is_static_storable,
 use Rattle.interpreter.specs.threads_monitors.Frames.{Frames, with_pc, with_stack}
 use Rattle.interpreter.specs.threads_monitors.declared.effects.Effect.TheVariants.{Continues}
 use Rattle.interpreter.specs.instructions.Frames.{when_some, value_pushed, onward, Transition}
-use Rattle.interpreter.specs.instructions.ObjectTransitions.{load_static_transition, store_static_transition, StaticTransition, beside_statics}
+use Rattle.interpreter.specs.instructions.ObjectTransitions.{load_static_transition, store_static_transition, StaticTransition, with_statics}
 use Rattle.interpreter.specs.declared.outcomes.InstructionOutcome.TheVariants.{OwnEffect}
 use Rattle.interpreter.specs.loaded_program.declared.instructions.LinkedInstruction.TheVariants as Linked
 use Rattle.interpreter.specs.Instructions.{operation_transition, of_statics, answer_of, of_frames}
@@ -48,7 +48,7 @@ use Rattle.simulation.proofs.Instructions.FrameProgress.{own_frame, leaves_is, o
 use Rattle.simulation.proofs.Instructions.Correspondence.{IsSetting, DoesAlike}
 use Rattle.simulation.proofs.Instructions.StackOperands.{fine, one_operand}
 use Rattle.simulation.proofs.Instructions.ObjectInstructionParts.{alike_transition, given_alike, known_alike}
-use Rattle.simulation.proofs.Memory.FieldPositions.{IsPlaced, placed, key_there, replaced_is}
+use Rattle.simulation.proofs.Memory.FieldPositions.{HasPosition, has_position, key_there, replaced_is}
 use Rattle.simulation.proofs.Memory.MemoryModels.{MemoryModel, IsModelled, mutator_in}
 
 -- a number below the bound passes as one of 32 bits
@@ -71,7 +71,7 @@ module _ (tree : Tree) (flag : Bool) (r : FieldReference) (d : ClassName) (g : F
   pub found_flag : g.is_static ≡ flag
   found_flag = same_flag_equal g.is_static flag (both_second _ _ (find_passes (asked flag r) (fields_declared tree d) g found_in.0))
 
-module _ (here : Setting) (model : MemoryModel here.tree) (name : Names) (m : Frames) (o : Objects) (statics : List Value) (printed : List ℕ) (s : State) (f : StateFrame) (below : List StateFrame) where
+module _ (here : StepContext) (model : MemoryModel here.tree) (name : Names) (m : Frames) (o : Objects) (statics : List Value) (printed : List ℕ) (s : State) (f : StateFrame) (below : List StateFrame) where
   abbrev HoldsStatic : Value → FieldKey × StateValue → Type 0
   HoldsStatic v x = IsValue name v x.1
 
@@ -82,8 +82,8 @@ module _ (here : Setting) (model : MemoryModel here.tree) (name : Names) (m : Fr
     abbrev key : FieldKey
     key = key_of (is.declared_in, is.found)
 
-    field_index : IsPlaced key (static_fields here.tree) s.statics
-    field_index = placed here.tree s key (static_fields here.tree) [] s.statics (subst (λ fs. HaveFieldTypes here.tree s s.statics fs) (sym (append-nil (static_fields here.tree))) at.running.typed.statics)
+    field_index : HasPosition key (static_fields here.tree) s.statics
+    field_index = has_position here.tree s key (static_fields here.tree) [] s.statics (subst (λ fs. HaveFieldTypes here.tree s s.statics fs) (sym (append-nil (static_fields here.tree))) at.running.typed.statics)
         (key_there key r.field_type (static_fields here.tree) (static_field_there here.tree at.running.accepted.legal r is.declared_in is.found is.finds))
 
     -- the index of the entry is the number that the machine computes
@@ -131,7 +131,7 @@ module _ (here : Setting) (model : MemoryModel here.tree) (name : Names) (m : Fr
   module _ (r : FieldReference) (field : FieldId) (is : IsField here.tree true r field) (at : IsSetting here model name m o statics printed s f below (Named.StoreStaticField r) (Resolved.StoreStaticField field)) where
     -- the transition, by the number of the field
     abbrev stores : ℕ → Value → Frames → StaticTransition
-    stores n v k = if nat_lt n (length statics) && is_static_storable model.phase o v then beside_statics (stored_static model.phase o statics n v) (onward k) else None
+    stores n v k = if nat_lt n (length statics) && is_static_storable model.phase o v then with_statics (stored_static model.phase o statics n v) (onward k) else None
 
     -- the number is one of the static fields
     inside : (n : ℕ) → n < length statics → nat_lt n (length statics) ≡ true
@@ -142,9 +142,9 @@ module _ (here : Setting) (model : MemoryModel here.tree) (name : Names) (m : Fr
         DoesAlike here model name m o statics printed s f below (of_statics o statics printed (stores n v (with_stack m rest))) (onward_frame f below (record s { statics = entries }) rest')
     store_after n v u is entries near agree rest rest' k = record {
       answer = answer_of (with_pc (with_stack m rest) (m.running.pc + 1)) memory_after.0 memory_after.1 printed (OwnEffect Continues);
-      is = ap (λ b. of_statics o statics printed (if b then beside_statics memory_after (onward (with_stack m rest)) else None))
+      is = ap (λ b. of_statics o statics printed (if b then with_statics memory_after (onward (with_stack m rest)) else None))
           (and_from (nat_lt n (length statics)) (is_static_storable model.phase o v) (inside n near) (model.static_storable name o statics s at.memory.fits v u is)) ∙
-          ap (λ x. of_statics o statics printed (beside_statics memory_after x)) (onward_is here model name m o statics printed s f below (Named.StoreStaticField r) (Resolved.StoreStaticField field) at rest);
+          ap (λ x. of_statics o statics printed (with_statics memory_after x)) (onward_is here model name m o statics printed s f below (Named.StoreStaticField r) (Resolved.StoreStaticField field) at rest);
       refuses = λ _ h. never h;
       alike = λ refused. onward_alike here model name m o statics printed s f below (Named.StoreStaticField r) (Resolved.StoreStaticField field) at name (λ b n' e. e) memory_after.0 memory_after.1 printed (record s { statics = entries }) refl memory rest rest' k;
     }

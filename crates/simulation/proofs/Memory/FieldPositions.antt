@@ -28,7 +28,7 @@ position_there k (f ∷ fs) h = by_test (has_key k f) refl h (position_there k f
 -- ---- entries
 
 -- an entry of typed fields at the position that its key has among the first ones
-pub record IsPlaced (k : FieldKey) (fs : List (FieldKey × DeclaredType)) (es : List (FieldKey × StateValue)) : Type 0 where
+pub record HasPosition (k : FieldKey) (fs : List (FieldKey × DeclaredType)) (es : List (FieldKey × StateValue)) : Type 0 where
   pub index : ℕ
   pub position : (i : ℕ) → position_from (has_key k) i fs ≡ Some (i + index)
   pub entry : FieldKey × StateValue
@@ -37,12 +37,12 @@ pub record IsPlaced (k : FieldKey) (fs : List (FieldKey × DeclaredType)) (es : 
   pub changed : (v : StateValue) → with_entry same_key k v es ≡ slice_set es index (entry.0, v)
 
 -- each key of the first ones has such an entry
-pub placed : (tree : Tree) (s : State) (k : FieldKey) (fs more : List (FieldKey × DeclaredType)) (es : List (FieldKey × StateValue)) → HaveFieldTypes tree s es (fs ++ more) → IsTrue (list_any (has_key k) fs) → IsPlaced k fs es
-placed tree s k [] more es h is = never is
-placed tree s k (f ∷ fs) more [] h is = elim h [ ]
-placed tree s k (f ∷ fs) more (e ∷ es) h is = by_test (has_key k f) refl is (placed tree s k fs more es h.2)
+pub has_position : (tree : Tree) (s : State) (k : FieldKey) (fs more : List (FieldKey × DeclaredType)) (es : List (FieldKey × StateValue)) → HaveFieldTypes tree s es (fs ++ more) → IsTrue (list_any (has_key k) fs) → HasPosition k fs es
+has_position tree s k [] more es h is = never is
+has_position tree s k (f ∷ fs) more [] h is = elim h [ ]
+has_position tree s k (f ∷ fs) more (e ∷ es) h is = by_test (has_key k f) refl is (has_position tree s k fs more es h.2)
   where
-    by_test : (b : Bool) → has_key k f ≡ b → IsTrue (b || list_any (has_key k) fs) → (IsTrue (list_any (has_key k) fs) → IsPlaced k fs es) → IsPlaced k (f ∷ fs) (e ∷ es)
+    by_test : (b : Bool) → has_key k f ≡ b → IsTrue (b || list_any (has_key k) fs) → (IsTrue (list_any (has_key k) fs) → HasPosition k fs es) → HasPosition k (f ∷ fs) (e ∷ es)
     by_test true test here later =
         let own : same_key e.0 k ≡ true = ap (λ x. same_key x k) h.0 ∙ test in
         record {

@@ -25,11 +25,11 @@ use Rattle.interpreter.proofs.reference_machine.Programs.DeclaredFields.{HasFiel
 use Rattle.interpreter.proofs.reference_machine.TypedStates.StateChanges.{entry_typed}
 use Rattle.simulation.proofs.ProgramSizes.ClassesAndFields.{instance_slot_small}
 use Rattle.interpreter.specs.resolved_code.ById.{class_name}
-use Rattle.interpreter.specs.resolved_code.Resolved.{IsField}
+use Rattle.interpreter.specs.resolved_code.ResolvedPrograms.{IsField}
 use Rattle.interpreter.specs.cil_model.ValueKinds.{kind_of_type}
-use Rattle.interpreter.specs.loaded_program.Operands.{small, slot_in, slot_at, held_at}
+use Rattle.interpreter.specs.loaded_program.Operands.{small, slot_in, slot_at, field_kind_at}
 use Rattle.simulation.proofs.Memory.InheritedFields.{has_key, entry_of_first, chain_of_field, among_own, no_field_of_object, fields_begin, same_thread}
-use Rattle.simulation.proofs.Memory.FieldPositions.{IsPlaced, placed, position_there, type_there}
+use Rattle.simulation.proofs.Memory.FieldPositions.{HasPosition, has_position, position_there, type_there}
 use Rattle.simulation.proofs.Instructions.StaticFields.{is_small, asked, found_in, found_flag}
 
 -- ---- slots after a hidden one, or none
@@ -97,7 +97,7 @@ module _ (tree : Tree) (legal : IsLegal tree) (r : FieldReference) (field : Fiel
       is_small slot (instance_slot_small tree legal key slot field.class (class_of_field tree field.class field.index is.declared_in is.found is.has_id) instance_is)
 
   -- so is the kind of what it holds
-  pub held_is : held_at tree field ≡ Some (kind_of_type is.found.field_type)
+  pub held_is : field_kind_at tree field ≡ Some (kind_of_type is.found.field_type)
   held_is = ap (option_map (λ (x : ClassName × Field). kind_of_type x.1.field_type)) is.has_id
 
   -- ---- its type
@@ -138,7 +138,7 @@ module _ (tree : Tree) (legal : IsLegal tree) (r : FieldReference) (field : Fiel
       let own = type_there tree s key v fields (instance_fields tree c) typed value in
       let inside : IsTrue (list_any (same_class is.declared_in) (chain_of tree c)) = chain_of_field tree key own.0 c own.1 in
       let begins = fields_begin tree legal c is.declared_in inside in
-      let field_index : IsPlaced key (instance_fields tree is.declared_in) fields = placed tree s key (instance_fields tree is.declared_in) begins.0 fields (subst (λ fs. HaveFieldTypes tree s fields fs) begins.1 typed) among in
+      let field_index : HasPosition key (instance_fields tree is.declared_in) fields = has_position tree s key (instance_fields tree is.declared_in) begins.0 fields (subst (λ fs. HaveFieldTypes tree s fields fs) begins.1 typed) among in
       let numbers : 0 + field_index.index ≡ 0 + position.0 = same_Some (0 + field_index.index) (0 + position.0) (sym (field_index.position 0) ∙ position.1 0) in
       let same : field_index.index ≡ position.0 = omega (arith, numbers) in
       let type_is : entry_at same_key key (instance_fields tree c) ≡ Some r.field_type = ap (entry_at same_key key) begins.1 ∙ entry_of_first key (instance_fields tree is.declared_in) begins.0 among ∙ own_entry in

@@ -16,7 +16,7 @@ use Rattle.interpreter.specs.reference_machine.Values.{Value as StateValue, zero
 use Rattle.interpreter.specs.reference_machine.States.{zero_fields}
 use Rattle.interpreter.specs.object_memory.Values.{value_word}
 use Rattle.interpreter.specs.cil_model.ValueKinds.{kind_at, kind_of_type}
-use Rattle.interpreter.specs.loaded_program.Prepared.{local_kinds}
+use Rattle.interpreter.specs.loaded_program.LocalKinds.{local_kinds}
 use Rattle.interpreter.specs.threads_monitors.Frames.{zero_value}
 use Rattle.simulation.specs.Agreement.{Agree}
 use Rattle.simulation.specs.Refines.{Names, IsValue, int32, int64, null_reference, IsWord}

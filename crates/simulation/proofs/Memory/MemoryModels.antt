@@ -7,7 +7,7 @@ use Rattle.interpreter.specs.cil_model.declared.trees.Tree.{Tree}
 use Rattle.interpreter.specs.cil_model.Fields.{FieldKey}
 use Rattle.interpreter.specs.cil_model.Mentions.{literals_of}
 use Rattle.interpreter.specs.reference_machine.Values.{ObjectName, Born, Literal, Value as StateValue, same_object}
-use Rattle.interpreter.specs.reference_machine.Effects.{Setting}
+use Rattle.interpreter.specs.reference_machine.Effects.{StepContext}
 use Rattle.interpreter.specs.reference_machine.States.{Monitor as StateMonitor, Contents, HeapObject, State, with_object, next_name, with_monitor as with_state_monitor, with_birth as with_state_birth}
 use Rattle.interpreter.specs.object_memory.declared.addresses.Addr.{Addr}
 use Rattle.interpreter.specs.object_memory.declared.addresses.TheConstants.{ADDRESSES}
@@ -17,7 +17,7 @@ use Rattle.interpreter.specs.object_memory.declared.values.Value.{Value}
 use Rattle.interpreter.specs.object_memory.Cells.{Cell, null, literal, store_slot, store_monitor}
 use Rattle.interpreter.specs.object_memory.Objects.{Objects, object_cell}
 use Rattle.interpreter.specs.object_memory.Spaces.{room_for}
-use Rattle.interpreter.specs.instructions.barriers.Barriers.{are_comparable, are_same, can_bear, is_monitor_storable, is_static_storable, is_storable, is_word_storable, object_born, stored_int, stored_monitor, stored_static, stored_value}
+use Rattle.interpreter.specs.instructions.barriers.Barriers.{are_comparable, are_same, can_allocate, is_monitor_storable, is_static_storable, is_storable, is_word_storable, object_born, stored_int, stored_monitor, stored_static, stored_value}
 use Rattle.interpreter.specs.object_memory.Values.{value_word}
 use Rattle.interpreter.specs.threads_monitors.declared.mutators.Mutator.{Mutator}
 use Rattle.reference_machine.specs.TypedStates.{IsTyped}
@@ -64,7 +64,7 @@ pub record MemoryModel (tree : Tree) : Type 1 where
   -- reading, of a typed state
   pub reads : (name : Names) (o : Objects) (ss : List Value) (s : State) → Fits name o ss s → IsTyped tree s → IsReadable tree name o s
   pub statics : (name : Names) (o : Objects) (ss : List Value) (s : State) → Fits name o ss s → AreStatics name ss s.statics
-  pub beside : (name : Names) (o : Objects) (ss : List Value) (s s' : State) → Fits name o ss s → IsBeside s s' → Fits name o ss s'
+  pub with_objects : (name : Names) (o : Objects) (ss : List Value) (s s' : State) → Fits name o ss s → IsBeside s s' → Fits name o ss s'
   -- comparing, of named addresses and null
   pub comparable : (name : Names) (o : Objects) (ss : List Value) (s : State) → Fits name o ss s → (a b : Addr) → IsReference name a → IsReference name b → are_comparable phase o a b ≡ true
   pub same : (name : Names) (o : Objects) (ss : List Value) (s : State) → Fits name o ss s → (a b : Addr) (n k : ObjectName) → name a.number ≡ Some n → name b.number ≡ Some k → are_same phase o a b ≡ same_object n k
@@ -102,7 +102,7 @@ pub record MemoryModel (tree : Tree) : Type 1 where
       (n : ℕ) (v : Value) (u : StateValue) → n < length ss → IsValue name v u → (entries : List (FieldKey × StateValue)) → AreStatics name (slice_set ss n v) entries →
       Fits name (stored_static phase o ss n v).0 (stored_static phase o ss n v).1 (record s { statics = entries })
   -- births: one that is refused changes nothing, and its object exceeds the room; any other makes an object of the next name
-  pub bears : (name : Names) (o : Objects) (ss : List Value) (s : State) → Fits name o ss s → can_bear phase o ≡ true
+  pub bears : (name : Names) (o : Objects) (ss : List Value) (s : State) → Fits name o ss s → can_allocate phase o ≡ true
   pub refusals : (name : Names) (o : Objects) (ss : List Value) (s : State) → Fits name o ss s →
       (k : Kind) (count : ℕ) (born : Objects) → ◌≡◌ {A = Objects × Option Addr} (object_born phase o k count) (born, None) → (born ≡ o) × (room_for phase o.spaces < 3 + count)
   pub births : (name : Names) (o : Objects) (ss : List Value) (s : State) → Fits name o ss s →
@@ -110,7 +110,7 @@ pub record MemoryModel (tree : Tree) : Type 1 where
       (born : Objects) (a : Addr) → object_born phase o k count ≡ (born, Some a) → IsBirth Fits name ss s contents born a
 
 -- a thread of this setting, as the collector sees it, in the phase of the model
-abbrev pub mutator_in : (here : Setting) → MemoryModel here.tree → Mutator
+abbrev pub mutator_in : (here : StepContext) → MemoryModel here.tree → Mutator
 mutator_in here model = record { number = here.thread; phase = model.phase }
 
 -- a memory with its static fields and printed bytes, as the instructions of a thread find it

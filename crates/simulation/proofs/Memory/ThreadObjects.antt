@@ -9,7 +9,7 @@ use Rattle.interpreter.specs.cil_model.Declarations.{string_name}
 use Rattle.interpreter.specs.cil_model.Fields.{FieldKey}
 use Rattle.interpreter.specs.reference_machine.Values.{ObjectName, Born, Literal, Value as StateValue, Null, Reference}
 use Rattle.interpreter.specs.reference_machine.States.{Contents, Instance as IsInstance, Array as IsArray, HeapObject, Frame as StateFrame, State, object_at, class_of, class_of_contents}
-use Rattle.interpreter.specs.reference_machine.Effects.{Setting, Effect as StateEffect, Sticks, when_some}
+use Rattle.interpreter.specs.reference_machine.Effects.{StepContext, Effect as StateEffect, Sticks, when_some}
 use Rattle.interpreter.specs.reference_machine.BuiltIn.{thread_object}
 use Rattle.interpreter.proofs.reference_machine.TypedStates.RunningFrames.{IsTypedEffect}
 use Rattle.interpreter.specs.resolved_code.ById.{class_name}
@@ -70,7 +70,7 @@ module _ (tree : Tree) (name : Names) (o : Objects) (s : State) (a : Addr) (numb
   own_class_is = ap (option_and_then (λ (y : HeapObject). class_of_contents y.contents)) x.is ∙ ap class_of_contents x.contents
 
 -- what is asked of a thread's object, where it isn't stuck, is asked of an object of a class of threads
-module _ (here : Setting) (s : State) (f : StateFrame) (below : List StateFrame) (name : Names) (o : Objects) (heap : IsReadable here.tree name o s) (a : Addr) (go : HeapObject → StateEffect) where
+module _ (here : StepContext) (s : State) (f : StateFrame) (below : List StateFrame) (name : Names) (o : Objects) (heap : IsReadable here.tree name o s) (a : Addr) (go : HeapObject → StateEffect) where
   abbrev pub IsAsked : ObjectName → Type 0
   IsAsked n = (number : ℕ) × (n ≡ Born number) × (x : IsThreadObject here.tree name o s a number) × (thread_object here s f below n go ≡ go x.object)
 

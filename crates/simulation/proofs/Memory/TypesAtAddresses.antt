@@ -8,7 +8,7 @@ use Rattle.interpreter.specs.cil_model.Assignable.{array_of, type_of_class, is_a
 use Rattle.interpreter.specs.cil_model.Declarations.{plain}
 use Rattle.interpreter.specs.reference_machine.Values.{ObjectName, Born, Literal, Value as StateValue}
 use Rattle.interpreter.specs.reference_machine.States.{Contents, Instance as IsInstance, Array as IsArray, HeapObject, Frame as StateFrame, State, type_of, type_of_contents}
-use Rattle.interpreter.specs.reference_machine.Effects.{Setting}
+use Rattle.interpreter.specs.reference_machine.Effects.{StepContext}
 use Rattle.interpreter.specs.reference_machine.Steps.{may_hold}
 use Rattle.interpreter.specs.resolved_code.ById.{type_at}
 use Rattle.interpreter.specs.resolved_code.declared.types.ResolvedType.{ResolvedType}
@@ -46,7 +46,7 @@ module _ (tree : Tree) (name : Names) (o : Objects) (s : State) (heap : IsReadab
 
 -- ---- what may be given where a type is required
 
-module _ (here : Setting) (name : Names) (o : Objects) (s : State) (f : StateFrame) (below : List StateFrame) (heap : IsReadable here.tree name o s) where
+module _ (here : StepContext) (name : Names) (o : Objects) (s : State) (f : StateFrame) (below : List StateFrame) (heap : IsReadable here.tree name o s) where
   -- a value may stand where the one that it represents may
   may_be_used_is : (v : Value) (u : StateValue) (t : DeclaredType) → IsValue name v u → may_be_used here.tree o v t ≡ may_hold here s f below t u
   may_be_used_is v u t (reference a n is) =

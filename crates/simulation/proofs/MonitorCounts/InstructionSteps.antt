@@ -22,20 +22,20 @@ use Rattle.interpreter.specs.reference_machine.Values.{ObjectName, Value, Int32,
 use Rattle.interpreter.specs.reference_machine.Arithmetic.{binary_value, unary_value, shift_value, compare_values, branch_values, is_set, convert_32, convert_64, as_index, not_option}
 use Rattle.interpreter.specs.reference_machine.States.{Monitor, Free, Held, Contents, Array, HeapObject, Frame, State, entry_at, replaced_entry, field_value, with_field, object_at, class_of, monitor_of, is_live, array_at, with_element, next_name, with_birth, new_instance}
 use Rattle.interpreter.specs.cil_model.Stacks.{take_one, take_two, take_three}
-use Rattle.interpreter.specs.reference_machine.Effects.{Setting, Effect, Goes, Blocks, Raises, Sticks, when_some, unless_fault, not_null, are_of_kinds, after, onward}
+use Rattle.interpreter.specs.reference_machine.Effects.{StepContext, Effect, Goes, Blocks, Raises, Sticks, when_some, unless_fault, not_null, are_of_kinds, after, onward}
 use Rattle.interpreter.specs.reference_machine.BuiltIn.{Action, Construct, Write, Enter, Exit, Start, Join, action_of, line_of, enter, exit, begin, start, join, thread_object, act}
 use Rattle.interpreter.specs.reference_machine.Steps.{instruction_at, effect_of, key_of, store_at, execute, jump, branch_if, birth, new_array, in_range, element, load_element, store_element, may_hold, store_reference, cast, frame_for, is_too_deep, run_method as run_found, operands, method_for, run_virtual, construct, return_from, to_label, switch_on}
 use Rattle.std.proofs.lemmas.Bool.{eqb-true}
 use Rattle.simulation.proofs.MonitorCounts.StateChanges.{IsStepping, IsCountedAfter, KeepsCounts, monitor_counted, own_count, own_budget, itself_keeps, monitor_keeps, birth_keeps, field_keeps, element_keeps, aside_keeps, start_keeps}
 
 -- an effect that leaves monitors counted after the step
-pub data KeepsInEffect (here : Setting) (s : State) (left : ℕ) : Effect → Type 0 where
+pub data KeepsInEffect (here : StepContext) (s : State) (left : ℕ) : Effect → Type 0 where
   goes : (fs : List Frame) (after : State) → KeepsCounts here s left after → KeepsInEffect here s left (Goes fs after)
   blocks : KeepsInEffect here s left Blocks
   raises : (x : Fault) → KeepsInEffect here s left (Raises x)
   sticks : KeepsInEffect here s left Sticks
 
-module _ (here : Setting) (s : State) (left : ℕ) where
+module _ (here : StepContext) (s : State) (left : ℕ) where
   -- ---- what effects are put together from
 
   -- the same, in this step

@@ -6,36 +6,36 @@ use Rattle.interpreter.specs.cil_model.Same.{same_text}
 use Rattle.interpreter.specs.cil_model.Fields.{FieldKey}
 use Rattle.interpreter.specs.reference_machine.Values.{ObjectName, Born, Literal, Value}
 use Rattle.interpreter.specs.reference_machine.States.{Monitor, Free, Held, Contents, Array, HeapObject, Thread, State, entry_at, replaced_entry, replaced_at, fields_of_contents, elements_of_contents, with_fields, with_field, with_element, object_at, with_object, monitor_of, with_monitor, with_birth}
-use Rattle.interpreter.specs.reference_machine.Effects.{Setting}
+use Rattle.interpreter.specs.reference_machine.Effects.{StepContext}
 use Rattle.simulation.specs.Counts.{IsCountedMonitor, IsCounted}
 use Rattle.simulation.proofs.ListLaws.ChangedItems.{entry_or_was}
 use Rattle.interpreter.proofs.cil_model.Lists.{none_is_some, get_before, set_or_was, last_or_was}
 
 -- a thread of a counted state that has this number of steps left after the one that it makes
-pub record IsStepping (here : Setting) (s : State) (left : ℕ) : Type 0 where
+pub record IsStepping (here : StepContext) (s : State) (left : ℕ) : Type 0 where
   pub counted : IsCounted here.limits s
   pub thread : Thread
   pub there : slice_get s.threads here.thread ≡ Some thread
   pub one_less : thread.steps_left ≡ left + 1
 
 -- a monitor that the thread holds, entered in steps that its budget has no more after the step
-abbrev pub IsOwnMonitor : Setting → ℕ → Monitor → Type 0
+abbrev pub IsOwnMonitor : StepContext → ℕ → Monitor → Type 0
 IsOwnMonitor here left Free = ⊥
 IsOwnMonitor here left (Held owner count) = (owner ≡ here.thread) × (count + left ≤ here.limits.budget)
 
 -- a monitor after the step: one that was counted, or the thread's own
-abbrev pub IsCountedAfter : Setting → State → ℕ → Monitor → Type 0
+abbrev pub IsCountedAfter : StepContext → State → ℕ → Monitor → Type 0
 IsCountedAfter here s left m = IsCountedMonitor here.limits s m ⊎ IsOwnMonitor here left m
 
 -- What a step leaves, but for the thread that makes it: each monitor is counted, and threads are those that were there or have
 -- their whole budget.
-pub record KeepsCounts (here : Setting) (s : State) (left : ℕ) (after : State) : Type 0 where
+pub record KeepsCounts (here : StepContext) (s : State) (left : ℕ) (after : State) : Type 0 where
   pub objects : (n : ℕ) (o : HeapObject) → slice_get after.objects n ≡ Some o → IsCountedAfter here s left o.monitor
   pub literals : (characters : List ℕ) (m : Monitor) → entry_at same_text characters after.literal_monitors ≡ Some m → IsCountedAfter here s left m
   pub threads : (n : ℕ) (t : Thread) → slice_get after.threads n ≡ Some t → (slice_get s.threads n ≡ Some t) ⊎ (t.steps_left ≡ here.limits.budget)
   pub stay : (n : ℕ) (t : Thread) → slice_get s.threads n ≡ Some t → slice_get after.threads n ≡ Some t
 
-module _ (here : Setting) (s : State) (left : ℕ) (stepping : IsStepping here s left) where
+module _ (here : StepContext) (s : State) (left : ℕ) (stepping : IsStepping here s left) where
   -- ---- monitors
 
   -- the monitor of an object that is there is counted

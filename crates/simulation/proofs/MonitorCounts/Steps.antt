@@ -8,7 +8,7 @@ use Rattle.interpreter.specs.cil_model.declared.reports.End.TheVariants.{Done, B
 use Rattle.interpreter.specs.cil_model.declared.reports.Report.{Report}
 use Rattle.interpreter.specs.cil_model.declared.reports.Report.TheVariants.{Ran, Blocked, Absent}
 use Rattle.interpreter.specs.reference_machine.States.{Monitor, Free, Held, Frame, Thread, State}
-use Rattle.interpreter.specs.reference_machine.Effects.{Setting, Effect, Goes, Blocks, Raises, Sticks}
+use Rattle.interpreter.specs.reference_machine.Effects.{StepContext, Effect, Goes, Blocks, Raises, Sticks}
 use Rattle.interpreter.specs.reference_machine.Steps.{StepOutcome, Answers, Stuck, effect_of, with_thread_at, ended_as, continues, charge, step_of, step}
 use Rattle.simulation.specs.Counts.{IsCountedMonitor, IsCounted}
 use Rattle.simulation.proofs.ListLaws.ChangedItems.{set_or_stays}
@@ -21,7 +21,7 @@ abbrev LeavesCounted : Limits → StepOutcome → Type 0
 LeavesCounted limits (Answers r s) = IsCounted limits s
 LeavesCounted limits Stuck = Unit {0}
 
-module _ (here : Setting) (allowed : 1 ≤ here.limits.budget) (s : State) where
+module _ (here : StepContext) (allowed : 1 ≤ here.limits.budget) (s : State) where
   module _ (left : ℕ) (stepping : IsStepping here s left) (after : State) (keeps : KeepsCounts here s left after) (moved : Thread) (steps : moved.steps_left ≡ left) where
     -- a monitor that the thread holds after the step
     own_counted : (owner count : ℕ) → owner ≡ here.thread → count + left ≤ here.limits.budget → IsCountedMonitor here.limits (with_thread_at after here.thread moved) (Held owner count)
@@ -112,7 +112,7 @@ module _ (here : Setting) (allowed : 1 ≤ here.limits.budget) (s : State) where
 pub step_counted : (tree : Tree) (limits : Limits) → 1 ≤ limits.budget → (t : ℕ) (refused : Bool) (s : State) → IsCounted limits s → (r : Report) (s' : State) → step tree limits s t refused ≡ Answers r s' → IsCounted limits s'
 step_counted tree limits allowed t refused s counted r s' e = subst (LeavesCounted limits) e (by_thread (slice_get s.threads t) refl)
   where
-    here : Setting
+    here : StepContext
     here = record { tree = tree; limits = limits; thread = t; is_refused = refused }
 
     by_thread : (o : Option Thread) → slice_get s.threads t ≡ o → LeavesCounted limits (option_map_or (step_of here s) o (Answers Absent s))

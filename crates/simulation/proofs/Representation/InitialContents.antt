@@ -46,7 +46,7 @@ use Rattle.collector.proofs.Addresses.Disjunctions.{or_second}
 use Rattle.simulation.proofs.Threads.Seats.{first_alone, first_fits}
 use Rattle.interpreter.specs.cil_model.declared.phases.Phase.TheVariants.{Idle}
 use Rattle.collector.specs.Phases.{no_progress}
-use Rattle.collector.specs.Holding.{Hold, hold_of, may_hold, passes, static_hold_of, static_may_hold}
+use Rattle.collector.specs.Holds.{Hold, hold_of, may_hold, passes, static_hold_of, static_may_hold}
 use Rattle.collector.specs.Soundness.{IsListed, IsSoundHeap}
 use Rattle.collector.proofs.PhaseChanges.BetweenCycles.{quiet_is_sound}
 use Rattle.simulation.proofs.Representation.MoreNames.{beginning_refines}

@@ -19,7 +19,7 @@ use Rattle.reference_machine.specs.TypedStates.{IsTyped}
 use Rattle.collector.specs.References.{ValuePasses, Test}
 use Rattle.collector.specs.Phases.{is_live as is_live_address}
 use Rattle.collector.specs.Soundness.{IsListed, IsSoundHeap}
-use Rattle.collector.specs.Holding.{may_hold, static_may_hold}
+use Rattle.collector.specs.Holds.{may_hold, static_may_hold}
 use Rattle.collector.specs.phase_handshake.Handshakes.{seat_of}
 use Rattle.collector.specs.phase_handshake.declared.posts.Seat.{Seat}
 use Rattle.collector.proofs.Addresses.Tests.{may_hold_live, static_may_hold_live, value_weakens}

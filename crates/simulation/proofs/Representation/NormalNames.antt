@@ -261,7 +261,7 @@ module _ (tree : Tree) (posted_phase : Phase) (has_round : Bool) (words : ℕ) (
             itself same = subst (λ (x : Addr). names x.number ≡ Some n) (sym same) (is_filled posted_phase m name a.number n live named)
 
             by_other : (c : Cell) → cell_in m.old a ≡ Some c → (x : Option Addr) → c.other ≡ x → names (forward m a).number ≡ Some n
-            by_other c lies None bare = itself (forward_bare m a c lies bare)
+            by_other c lies None no_copy = itself (forward_bare m a c lies no_copy)
             by_other c lies (Some b) other =
                 let copy = sound.copies.out a b c lies other in
                 let live_new = new_is_live posted_phase m b (words_are_live posted_phase late) (or_right (is_permanent b) (is_new m b) (new_is m b copy.0 copy.1)) in
@@ -434,7 +434,7 @@ module _ (tree : Tree) (posted_phase : Phase) (has_round : Bool) (words : ℕ) (
       itself same = subst (λ (x : Addr). name x.number ≡ Some n) (sym same) named
 
       by_other : (c : Cell) → cell_in o.spaces.old a ≡ Some c → (x : Option Addr) → c.other ≡ x → name (forward o.spaces a).number ≡ Some n
-      by_other c lies None bare = itself (forward_bare o.spaces a c lies bare)
+      by_other c lies None no_copy = itself (forward_bare o.spaces a c lies no_copy)
       by_other c lies (Some b) other =
           let copy = sound.copies.out a b c lies other in
           let live = new_is_live posted_phase o.spaces b (words_are_live posted_phase late) (or_right (is_permanent b) (is_new o.spaces b) (new_is o.spaces b copy.0 copy.1)) in

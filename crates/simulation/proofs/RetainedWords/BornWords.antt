@@ -36,10 +36,10 @@ use Rattle.interpreter.proofs.cil_model.Lists.{none_is_some}
 use Rattle.interpreter.proofs.object_memory.Blocks.{used_in}
 use Rattle.interpreter.proofs.object_memory.Rooms.{HasShellRoom-shell}
 use Rattle.interpreter.proofs.object_memory.TwoSpaces.TwoBlocks.{slot_keeps}
-use Rattle.collector.specs.Copying.{address_after_cell, copied_at, copied_on, looked_on, object_copied, shell_made, shell_step, word_step, word_stored, after_word, before_word}
+use Rattle.collector.specs.CopySteps.{address_after_cell, copy_step_at, next_copy_step, next_shell_step, object_copied, shell_made, shell_step, word_step, word_stored, after_word, before_word}
 use Rattle.collector.specs.Attempts.{with_loaded}
-use Rattle.collector.specs.Flips.{cleared_at, cleared_on, flipped_on}
-use Rattle.collector.specs.Marking.{is_closed, mark_step, marked_on, object_scanned, oldest_cell, slot_scanned, statics_scanned, without_oldest, word_of}
+use Rattle.collector.specs.Flips.{clear_step_at, next_clear_step, next_flip_step}
+use Rattle.collector.specs.MarkSteps.{is_closed, mark_step, next_mark_step, object_scanned, oldest_cell, slot_scanned, statics_scanned, without_oldest, word_of}
 use Rattle.collector.specs.Phases.{is_of_cycle}
 use Rattle.collector.specs.References.{holds_reference, reference_in}
 use Rattle.collector.specs.Soundness.{copied_word}
@@ -49,7 +49,7 @@ use Rattle.collector.specs.declared.progress.Stage.{Stage}
 use Rattle.collector.specs.declared.progress.Stage.TheVariants.{Begins, Loaded, Stored}
 use Rattle.collector.specs.declared.progress.TheConstants.{MOST_FAILED_CHECKS}
 use Rattle.collector.specs.phase_handshake.Handshakes.{all_answered, all_seen, is_open, own_phase}
-use Rattle.simulation.specs.Collecting.{answers_round, clear_object, collect, flip_values, mark_work, mark_object, next_posted, objects_after, round_posted, rounds, with_acknowledgement, with_roots_marked, with_status_marked, with_thread_marked, work, do_work}
+use Rattle.simulation.specs.CollectorSteps.{answers_round, clear_object, collect, flip_values, mark_work, mark_object, next_posted, objects_after, round_posted, rounds, with_acknowledgement, with_roots_marked, with_status_marked, with_thread_marked, work, do_work}
 use Rattle.simulation.specs.MachineStates.{MachineState}
 use Rattle.simulation.specs.Rooms.{HasNoRoom, spaces_of}
 use Rattle.simulation.specs.Sound.{IsSound}
@@ -123,7 +123,7 @@ step_uses Begins tree p o a c b =
 step_uses Loaded tree p o a c b = stored_uses tree o p.attempt c b p.copied_words
 step_uses Stored tree p o a c b = uses_itself o.spaces
 
-copy_uses : (tree : Tree) (p : Progress) (o : Objects) (found : Option ℕ) → UsesAsMuch o.spaces (copied_at tree p o found).1.spaces
+copy_uses : (tree : Tree) (p : Progress) (o : Objects) (found : Option ℕ) → UsesAsMuch o.spaces (copy_step_at tree p o found).1.spaces
 copy_uses tree p o None = uses_itself o.spaces
 copy_uses tree p o (Some at) = by_cell (cell_in o.spaces.old (record { number = at }))
   where
@@ -136,7 +136,7 @@ copy_uses tree p o (Some at) = by_cell (cell_in o.spaces.old (record { number = 
     by_cell (Some c) = by_other c c.other
 
 -- and what is cleared
-clear_uses : (p : Progress) (o : Objects) (found : Option ℕ) → UsesAsMuch o.spaces (cleared_at p o found).1.spaces
+clear_uses : (p : Progress) (o : Objects) (found : Option ℕ) → UsesAsMuch o.spaces (clear_step_at p o found).1.spaces
 clear_uses p o None = uses_itself o.spaces
 clear_uses p o (Some at) = by_cell (cell_in o.spaces.new (record { number = at }))
   where
@@ -155,8 +155,8 @@ module _ (least all : ℕ) where
   shell_within o a c are room lies h = by_need c.marked c.other refl
     where
       by_need : (mark_object : Bool) (other : Option Addr) → c.other ≡ other → AreWithin least all (if◌then◌else◌ {A = Objects} (mark_object && is_none other) (record o { spaces = with_shell o.spaces a c }) o).spaces
-      by_need true None bare =
-          let more = HasShellRoom-shell o.spaces are room a c lies bare in
+      by_need true None no_copy =
+          let more = HasShellRoom-shell o.spaces are room a c lies no_copy in
           let kept = used_in (set_other (next_address o.spaces.new)) (λ x. refl) o.spaces.old a in
           record { words = h.words; old = omega (arith, kept, h.old); new = omega (arith, kept, more.words, h.old) }
       by_need _ _ other = h
@@ -194,23 +194,23 @@ module _ (least all : ℕ) where
 
     mark_within : Within (mark_work c)
     mark_within =
-        either Within c.progress.scanned_statics (mark_object c (marked_on c.tree c.progress c.objects))
+        either Within c.progress.scanned_statics (mark_object c (next_mark_step c.tree c.progress c.objects))
         (record c { progress = (statics_scanned c.progress c.objects c.statics).0; objects = (statics_scanned c.progress c.objects c.statics).1 }, Worked)
-        (marked_within (marked_on c.tree c.progress c.objects) (uses_within c.objects.spaces _ (mark_uses c.tree c.progress c.objects c.objects.spaces.grey (oldest_cell c.objects c.objects.spaces.grey)) h))
+        (marked_within (next_mark_step c.tree c.progress c.objects) (uses_within c.objects.spaces _ (mark_uses c.tree c.progress c.objects c.objects.spaces.grey (oldest_cell c.objects c.objects.spaces.grey)) h))
         (uses_within c.objects.spaces _ (all_marked_uses c.statics c.objects) h)
 
     work_within : (posted_phase : Phase) → c.posts.posted_phase ≡ posted_phase → Within (work posted_phase c)
     work_within Idle is = record { words = h.words; old = h.old; new = omega arith }
     work_within Mark is = mark_within
     work_within Allocate is =
-        worked_within (looked_on c.progress c.objects)
+        worked_within (next_shell_step c.progress c.objects)
         (look_within c.progress c.objects (cell_in c.objects.spaces.old (address_after_cell c.objects.spaces.old c.progress.cursor)) sound.heap.blocks.spaces (sound.heap.copies.room (inr is)) refl h)
     work_within Copy is =
-        worked_within (copied_on c.tree c.progress c.objects)
+        worked_within (next_copy_step c.tree c.progress c.objects)
         (uses_within c.objects.spaces _ (copy_uses c.tree c.progress c.objects (found_in has_other c.objects.spaces.old (c.objects.spaces.old.start + c.progress.cursor))) h)
-    work_within HeapFlip is = flipped_within (flipped_on c.progress c.objects c.statics)
+    work_within HeapFlip is = flipped_within (next_flip_step c.progress c.objects c.statics)
     work_within Reclaim is =
-        cleared_within is (cleared_on c.progress c.objects)
+        cleared_within is (next_clear_step c.progress c.objects)
         (uses_within c.objects.spaces _ (clear_uses c.progress c.objects (found_in is_noted c.objects.spaces.new (c.objects.spaces.new.start + c.progress.cursor))) h)
     work_within _ is = h
 
@@ -295,7 +295,7 @@ module _ (c : MachineState) (s : State) (r : Represents c s) (h : IsWithinBirths
         report = x.report;
         after = x.after;
         object = x.object;
-        unrefused = x.unrefused;
+        without_refusal = x.without_refusal;
         is_born = x.is_born;
         exceeds = beyond words left (omega (arith, more, left_for_births));
       }

@@ -29,8 +29,8 @@ use Rattle.interpreter.specs.object_memory.Objects.{used_space, Objects}
 use Rattle.interpreter.specs.object_memory.Spaces.{Spaces, close_cycle, AreSpaces, other_of}
 use Rattle.collector.specs.Phases.{is_of_cycle, is_new}
 use Rattle.simulation.specs.MachineStates.{MachineState}
-use Rattle.simulation.specs.Collecting.{collect}
-use Rattle.simulation.specs.Retained.{LeavesOnlyRetained, RetainsAfter}
+use Rattle.simulation.specs.CollectorSteps.{collect}
+use Rattle.simulation.specs.RetainedObjects.{LeavesOnlyRetained, RetainsAfter}
 use Rattle.simulation.specs.Runs.{IsNext, IsRunOf, RefusesBeyondRoom, RefinesAfter}
 use Rattle.simulation.specs.Refines.{Represents, IsHeap, Names}
 use Rattle.simulation.specs.Transitions.{IsTransition}

@@ -22,7 +22,7 @@ use Rattle.interpreter.proofs.object_memory.Births.{born-kept_old, born-old_last
 use Rattle.interpreter.proofs.object_memory.Blocks.{next_in}
 use Rattle.interpreter.proofs.object_memory.TwoSpaces.TwoBlocks.{after_in, own as changed, still as unchanged}
 use Rattle.interpreter.proofs.cil_model.Lists.{none_is_some}
-use Rattle.collector.specs.Holding.{AnyLive, Hold, MarkedOnly, NewOnly, passes}
+use Rattle.collector.specs.Holds.{AnyLive, Hold, MarkedOnly, NewOnly, passes}
 use Rattle.collector.specs.Phases.{is_live, is_marked_cell, is_marked_old, is_new}
 use Rattle.collector.specs.References.{Test, is_permanent}
 use Rattle.collector.proofs.ThreadReferences.AfterStores.{marked_first}

@@ -31,9 +31,9 @@ use Rattle.interpreter.specs.threads_monitors.declared.threads.ThreadStatus.TheV
 use Rattle.interpreter.specs.threads_monitors.declared.threads.Thread.{Thread}
 use Rattle.reference_machine.specs.TypedStates.{IsTyped}
 use Rattle.collector.specs.phase_handshake.Handshakes.{Handshakes, all_answered, all_seen}
-use Rattle.collector.specs.Copying.{address_after_cell, copied_on, looked_on}
-use Rattle.collector.specs.Flips.{cleared_at, cleared_on, flipped_on}
-use Rattle.collector.specs.Marking.{is_closed, mark_step, marked_on, object_scanned, oldest_cell, slot_scanned, statics_scanned, with_all_marked, without_oldest, word_of}
+use Rattle.collector.specs.CopySteps.{address_after_cell, next_copy_step, next_shell_step}
+use Rattle.collector.specs.Flips.{clear_step_at, next_clear_step, next_flip_step}
+use Rattle.collector.specs.MarkSteps.{is_closed, mark_step, next_mark_step, object_scanned, oldest_cell, slot_scanned, statics_scanned, with_all_marked, without_oldest, word_of}
 use Rattle.collector.specs.Phases.{is_live, is_marked_cell, is_marked_old, is_new}
 use Rattle.collector.specs.References.{Test, ValuePasses, holds_reference, is_permanent, reference_in}
 use Rattle.collector.specs.Soundness.{IsListed, IsSoundHeap}
@@ -45,7 +45,7 @@ use Rattle.collector.proofs.Marks.MarkedHeaps.{AreDarker-with_all_marked}
 use Rattle.collector.proofs.Copies.AllocateWork.{looked_sound}
 use Rattle.collector.proofs.Addresses.Tests.{mark_is, marked_cell, never, new_cell, new_is, none_is_new, permanent_not_old}
 use Rattle.simulation.specs.Agreement.{Agree}
-use Rattle.simulation.specs.Collecting.{clear_object, collect, cycle_ended, flip_values, mark_object, next_posted, round_posted, rounds, with_acknowledgement, work, do_work}
+use Rattle.simulation.specs.CollectorSteps.{clear_object, collect, cycle_ended, flip_values, mark_object, next_posted, round_posted, rounds, with_acknowledgement, work, do_work}
 use Rattle.simulation.specs.MachineStates.{MachineState}
 use Rattle.simulation.specs.Sound.{IsSound}
 use Rattle.simulation.specs.Refines.{IsHeap, IsThread, IsValue, Names, StatusRefines, RefinesUnder, null_reference, reference}
@@ -262,9 +262,9 @@ module _ (c : MachineState) (s : State) (legal : IsLegal c.tree) (typed : IsType
     by_mark (p, o, false) kept = rounds_then
 
     marks_then : Then (work Mark (posting Mark c))
-    marks_then = either_then c.progress.scanned_statics (mark_object (posting Mark c) (marked_on c.tree c.progress c.objects))
+    marks_then = either_then c.progress.scanned_statics (mark_object (posting Mark c) (next_mark_step c.tree c.progress c.objects))
         (record (posting Mark c) { progress = (statics_scanned c.progress c.objects c.statics).0; objects = (statics_scanned c.progress c.objects c.statics).1 }, Worked)
-        (λ scanned. by_mark (marked_on c.tree c.progress c.objects)
+        (λ scanned. by_mark (next_mark_step c.tree c.progress c.objects)
         (step_named c.tree legal s typed name c.objects spaces refines.memory.heap has.kept c.progress c.objects.spaces.grey (sound.heap.marks refl).listed (oldest_cell c.objects c.objects.spaces.grey) refl))
         (λ early. dark_then (statics_scanned c.progress c.objects c.statics).0 (statics_scanned c.progress c.objects c.statics).1
         (all_named name c.statics c.objects spaces (entries_are name c.statics s.statics refines.memory.static_values) has.kept))
@@ -273,7 +273,7 @@ module _ (c : MachineState) (s : State) (legal : IsLegal c.tree) (typed : IsType
 
   module _ (sound : IsSound (posting Allocate c)) (has : HasNames name (posting Allocate c)) where
     abbrev looked : Progress × Objects × Bool
-    looked = looked_on c.progress c.objects
+    looked = next_shell_step c.progress c.objects
 
     looked_kept : (a : Addr) → is_marked_old looked.1.spaces a ≡ true → IsNamed name a
     looked_kept a h =
@@ -301,7 +301,7 @@ module _ (c : MachineState) (s : State) (legal : IsLegal c.tree) (typed : IsType
 
   module _ (sound : IsSound (posting Copy c)) (has : HasNames name (posting Copy c)) where
     abbrev filled : Progress × Objects × Bool
-    filled = copied_on c.tree c.progress c.objects
+    filled = next_copy_step c.tree c.progress c.objects
 
     marks_same : (a : Addr) → is_marked_old filled.1.spaces a ≡ is_marked_old c.objects.spaces a
     marks_same a = ap (λ b. is_marked_cell (cell_in b a)) (copied_old c.tree c.progress c.objects c.posts.has_round c.limits.max_words sound.heap)
@@ -338,7 +338,7 @@ module _ (c : MachineState) (s : State) (legal : IsLegal c.tree) (typed : IsType
   -- ---- Reclaim
 
   -- a cleared object was there before
-  cleared_new : (x : Option ℕ) (a : Addr) → is_new (cleared_at c.progress c.objects x).1.spaces a ≡ true → is_new c.objects.spaces a ≡ true
+  cleared_new : (x : Option ℕ) (a : Addr) → is_new (clear_step_at c.progress c.objects x).1.spaces a ≡ true → is_new c.objects.spaces a ≡ true
   cleared_new None a h = h
   cleared_new (Some at) a h = by_cell (cell_in c.objects.spaces.new (record { number = at })) h
     where
@@ -356,7 +356,7 @@ module _ (c : MachineState) (s : State) (legal : IsLegal c.tree) (typed : IsType
   by_clear (p, o, false) kept = by_old (cycle_ended (posting Reclaim c), CycleDone) (λ a h. never h) (λ copying. never copying)
 
   clears_then : HasNames name (posting Reclaim c) → Then (work Reclaim (posting Reclaim c))
-  clears_then has = by_clear (cleared_on c.progress c.objects) (λ a h. has.kept a (cleared_new (found_in is_noted c.objects.spaces.new (c.objects.spaces.new.start + c.progress.cursor)) a h))
+  clears_then has = by_clear (next_clear_step c.progress c.objects) (λ a h. has.kept a (cleared_new (found_in is_noted c.objects.spaces.new (c.objects.spaces.new.start + c.progress.cursor)) a h))
 
   -- ---- all
 
@@ -366,7 +366,7 @@ module _ (c : MachineState) (s : State) (legal : IsLegal c.tree) (typed : IsType
   work_then Allocate sound has = looks_then sound has
   work_then Copy sound has = copies_then sound has
   work_then PreFlip sound has = by_old (next_posted (posting PreFlip c)) has.kept (λ copying. never copying)
-  work_then HeapFlip sound has = flips_then (flipped_on c.progress c.objects c.statics) has
+  work_then HeapFlip sound has = flips_then (next_flip_step c.progress c.objects c.statics) has
   work_then ThreadFlip sound has = by_old (next_posted (posting ThreadFlip c)) has.kept (λ copying. never copying)
   work_then Reclaim sound has = clears_then has
 

@@ -22,7 +22,7 @@ use Rattle.interpreter.proofs.reference_machine.Runs.JoinedRuns.{same_state}
 use Rattle.interpreter.proofs.cil_model.SameLaws.{never}
 use Rattle.collector.specs.Phases.{is_of_cycle}
 use Rattle.simulation.specs.MachineStates.{MachineState}
-use Rattle.simulation.specs.Retained.{RetainsAfter}
+use Rattle.simulation.specs.RetainedObjects.{RetainsAfter}
 use Rattle.simulation.specs.Runs.{IsNext, IsRunOf}
 use Rattle.simulation.specs.Refines.{Represents}
 use Rattle.simulation.specs.Transitions.{IsTransition}

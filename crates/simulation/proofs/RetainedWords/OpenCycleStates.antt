@@ -13,7 +13,7 @@ use Rattle.interpreter.proofs.reference_machine.ReachableObjects.Runs.{step_with
 use Rattle.interpreter.proofs.reference_machine.ReachableObjects.States.{IsClosed}
 use Rattle.interpreter.specs.object_memory.declared.addresses.Addr.{Addr}
 use Rattle.simulation.specs.MachineStates.{MachineState}
-use Rattle.simulation.specs.Collecting.{collect, with_acknowledgement}
+use Rattle.simulation.specs.CollectorSteps.{collect, with_acknowledgement}
 use Rattle.simulation.specs.Refines.{Names, Represents, RefinesUnder}
 use Rattle.simulation.specs.Transitions.{IsTransition}
 use Rattle.simulation.proofs.CollectorEvents.AcknowledgementCases.{after_acknowledgement}

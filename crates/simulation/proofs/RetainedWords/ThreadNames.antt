@@ -18,7 +18,7 @@ use Rattle.interpreter.specs.object_memory.Spaces.{AreSpaces, is_old}
 use Rattle.interpreter.specs.instructions.barriers.Barriers.{object_born, stored_int, stored_monitor, stored_value}
 use Rattle.collector.specs.phase_handshake.Handshakes.{Handshakes, IsClose}
 use Rattle.collector.specs.phase_handshake.declared.posts.Seat.{Seat}
-use Rattle.collector.specs.Holding.{IsOnTime}
+use Rattle.collector.specs.Holds.{IsOnTime}
 use Rattle.collector.specs.declared.progress.Progress.{Progress}
 use Rattle.collector.proofs.ThreadReferences.AfterStores.{marked_first, monitor_alike, static_marks, value_alike, word_alike}
 use Rattle.collector.proofs.Births.BirthSoundness.{near_of_close}
@@ -141,8 +141,8 @@ module _ (tree : Tree) (legal : IsLegal tree) (words : ℕ) (h : Handshakes) (p 
         Fits = FitsNamed;
         reads = λ name o ss s fit typed. base.reads name o ss s fit.fits typed;
         statics = λ name o ss s fit. base.statics name o ss s fit.fits;
-        beside = λ name o ss s s' fit same. record {
-          fits = base.beside name o ss s s' fit.fits same;
+        with_objects = λ name o ss s s' fit same. record {
+          fits = base.with_objects name o ss s s' fit.fits same;
           names = fit.names;
           more = subst (λ (objects : List HeapObject). begun ≤ length objects) (sym same.objects) fit.more;
         };

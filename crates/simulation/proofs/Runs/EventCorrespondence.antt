@@ -7,12 +7,12 @@ use Rattle.interpreter.specs.cil_model.Bodies.{lines_of}
 use Rattle.interpreter.specs.cil_model.Ranges.{are_in_range}
 use Rattle.interpreter.specs.cil_model.Typings.{IsAccepted}
 use Rattle.interpreter.specs.reference_machine.States.{Frame as StateFrame, State}
-use Rattle.interpreter.specs.reference_machine.Effects.{Setting}
+use Rattle.interpreter.specs.reference_machine.Effects.{StepContext}
 use Rattle.interpreter.specs.reference_machine.Steps.{Answers, execute, step}
 use Rattle.interpreter.specs.reference_machine.Runs.{is_refusal, initial_state}
 use Rattle.interpreter.specs.cil_model.declared.events.Event.TheVariants.{Step, Ack, Gc}
 use Rattle.interpreter.specs.cil_model.declared.reports.Report.{Report}
-use Rattle.interpreter.specs.resolved_code.Resolved.{IsOperation, no_operation, load_int32, load_int64, load_null, load_string, load_argument, store_argument, load_local, store_local, duplicate, pop, binary, unary, shift, compare, convert_int32, convert_int64, branch, switch, load_field, store_field, load_static_field, store_static_field, new_array, load_length, load_element, store_element, cast_class, is_instance, call, call_virtual, new_object, return}
+use Rattle.interpreter.specs.resolved_code.ResolvedPrograms.{IsOperation, no_operation, load_int32, load_int64, load_null, load_string, load_argument, store_argument, load_local, store_local, duplicate, pop, binary, unary, shift, compare, convert_int32, convert_int64, branch, switch, load_field, store_field, load_static_field, store_static_field, new_array, load_length, load_element, store_element, cast_class, is_instance, call, call_virtual, new_object, return}
 use Rattle.interpreter.specs.resolved_code.declared.operations.Operation.{Operation}
 use Rattle.interpreter.specs.object_memory.declared.values.Value.{Value}
 use Rattle.interpreter.specs.object_memory.Objects.{Objects}
@@ -36,12 +36,12 @@ use Rattle.simulation.proofs.Instructions.Casts.{cast_class_alike, is_instance_a
 use Rattle.simulation.proofs.Instructions.Calls.MethodExecution.{methods_run_alike, return_alike}
 use Rattle.simulation.proofs.Instructions.Calls.MethodCalls.{call_alike, call_virtual_alike}
 use Rattle.simulation.proofs.Instructions.NewObjects.{new_object_alike}
-use Rattle.simulation.specs.Ready.{IsReady, IsAnswerable}
+use Rattle.simulation.specs.ReadySteps.{IsReady, IsAnswerable}
 use Rattle.simulation.proofs.Representation.InitialContents.{initial_represents}
 use Rattle.simulation.proofs.Threads.Steps.{thread_ready, answerable, step_follows, refused_beyond_room}
 use Rattle.simulation.specs.Rooms.{HasNoRoom}
 
-module _ (here : Setting) (model : MemoryModel here.tree) (name : Names) (m : Frames) (o : Objects) (statics : List Value) (printed : List ℕ) (s : State) (f : StateFrame) (below : List StateFrame) where
+module _ (here : StepContext) (model : MemoryModel here.tree) (name : Names) (m : Frames) (o : Objects) (statics : List Value) (printed : List ℕ) (s : State) (f : StateFrame) (below : List StateFrame) where
   -- by what runs for the instruction
   by_operation : (i : Instruction) (operation : Operation) → IsOperation here.tree (lines_of f.method) i operation → IsSetting here model name m o statics printed s f below i operation →
       DoesAlike here model name m o statics printed s f below (operation_transition here.tree (mutator_in here model) operation m o statics printed) (execute here s f below i)

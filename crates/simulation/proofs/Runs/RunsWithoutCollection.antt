@@ -111,7 +111,7 @@ module _ (each : InstructionsAreAlike) where
       report = x.report;
       after = x.after;
       object = x.object;
-      unrefused = x.unrefused;
+      without_refusal = x.without_refusal;
       is_born = x.is_born;
       exceeds = subst (λ n. IsTrue (if nat_le (cell_words c.tree x.object.contents) n then false else true)) same_room x.exceeds;
     }
@@ -121,7 +121,7 @@ module _ (each : InstructionsAreAlike) where
       report = x.report;
       after = x.after;
       object = x.object;
-      unrefused = x.unrefused;
+      without_refusal = x.without_refusal;
       is_born = x.is_born;
       exceeds = subst (λ n. IsTrue (if nat_le (cell_words c.tree x.object.contents) n then false else true)) (sym same_room) x.exceeds;
     }

@@ -12,7 +12,7 @@ use Rattle.interpreter.specs.cil_model.declared.types.ClassName.{ClassName}
 use Rattle.interpreter.specs.cil_model.declared.trees.Method.{Method}
 use Rattle.interpreter.specs.cil_model.declared.trees.Line.{Line}
 use Rattle.interpreter.specs.cil_model.declared.trees.Tree.{Tree}
-use Rattle.interpreter.specs.resolved_code.Resolved.{IsOperation}
+use Rattle.interpreter.specs.resolved_code.ResolvedPrograms.{IsOperation}
 use Rattle.interpreter.specs.resolved_code.declared.operations.Operation.{Operation}
 use Rattle.interpreter.specs.reference_machine.Runs.{RunsTo, is_refusal, run, step_reports, thread_part}
 use Rattle.interpreter.specs.reference_machine.States.{State}

@@ -9,7 +9,7 @@ use Rattle.interpreter.specs.object_memory.declared.values.Value.{Value}
 use Rattle.interpreter.specs.object_memory.Objects.{Objects}
 use Rattle.collector.specs.phase_handshake.Handshakes.{IsClose, seat_of}
 use Rattle.collector.specs.phase_handshake.declared.posts.Seat.{Seat}
-use Rattle.collector.specs.Holding.{IsOnTime, passes}
+use Rattle.collector.specs.Holds.{IsOnTime, passes}
 use Rattle.collector.specs.Phases.{is_live}
 use Rattle.collector.specs.Soundness.{IsListed}
 use Rattle.interpreter.specs.threads_monitors.Frames.{Frames}

@@ -14,7 +14,7 @@ use Rattle.interpreter.specs.threads_monitors.declared.threads.Thread.{Thread}
 use Rattle.interpreter.specs.Instructions.{Answer, answer_of}
 use Rattle.interpreter.specs.Local.{AreLocalSteps, IsLocalStep, IsReadySomewhere, frames_over}
 use Rattle.interpreter.specs.declared.outcomes.InstructionOutcome.TheVariants.{OwnEffect}
-use Rattle.simulation.specs.Lending.{RunsFrame, with_live}
+use Rattle.simulation.specs.LentFrames.{RunsFrame, with_live}
 use Rattle.simulation.specs.MachineStates.{MachineState, frame_room, mutator_of}
 use Rattle.simulation.specs.Runs.{AreTransitions}
 use Rattle.simulation.specs.Refines.{Represents}

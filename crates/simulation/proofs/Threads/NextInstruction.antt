@@ -9,17 +9,17 @@ use Rattle.interpreter.specs.cil_model.declared.trees.Method.{Method}
 use Rattle.interpreter.specs.cil_model.declared.types.ClassName.{ClassName}
 use Rattle.interpreter.specs.cil_model.Bodies.{lines_of}
 use Rattle.interpreter.specs.reference_machine.States.{Frame as StateFrame, Thread as StateThread, State}
-use Rattle.interpreter.specs.reference_machine.Effects.{Setting}
+use Rattle.interpreter.specs.reference_machine.Effects.{StepContext}
 use Rattle.interpreter.specs.reference_machine.Steps.{instruction_at, execute}
 use Rattle.interpreter.proofs.reference_machine.TypedStates.RunningFrames.{IsRunning, runs_at}
 use Rattle.interpreter.specs.reference_machine.TypedStates.{AreTypedFrames}
-use Rattle.interpreter.specs.resolved_code.Resolved.{IsOperation}
+use Rattle.interpreter.specs.resolved_code.ResolvedPrograms.{IsOperation}
 use Rattle.interpreter.specs.resolved_code.declared.operations.Operation.{Operation}
 use Rattle.interpreter.specs.threads_monitors.Frames.{Frames}
 use Rattle.interpreter.specs.threads_monitors.declared.threads.ThreadStatus.TheVariants.{Live}
 use Rattle.interpreter.specs.Instructions.{HasSmallConstant, IsAt, line_at, operation_transition}
 use Rattle.simulation.specs.MachineStates.{MachineState, mutator_of}
-use Rattle.simulation.specs.Ready.{IsReady}
+use Rattle.simulation.specs.ReadySteps.{IsReady}
 use Rattle.simulation.specs.Refines.{Names, IsFrame, AreFrames, IsThread, StatusRefines, Represents}
 use Rattle.simulation.proofs.ListLaws.AgreeingLists.{agree_at}
 use Rattle.simulation.proofs.Instructions.Correspondence.{IsSetting, DoesAlike, InstructionsAreAlike}
@@ -30,7 +30,7 @@ use Rattle.simulation.proofs.Threads.LiveThreads.{normally, own_frames, own_memo
 -- ---- a live thread
 
 -- a setting of a thread's step
-abbrev pub setting_of : MachineState → ℕ → Bool → Setting
+abbrev pub setting_of : MachineState → ℕ → Bool → StepContext
 setting_of c t refused = record { tree = c.tree; limits = c.limits; thread = t; is_refused = refused }
 
 -- the thread of the reference machine lives, with frames that those of the machine represent, and the same number of steps left

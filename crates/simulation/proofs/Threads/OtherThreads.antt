@@ -10,7 +10,7 @@ use Rattle.interpreter.specs.threads_monitors.declared.threads.ThreadStatus.TheV
 use Rattle.interpreter.specs.threads_monitors.declared.threads.Thread.{Thread}
 use Rattle.interpreter.specs.Instructions.{Answer}
 use Rattle.interpreter.specs.declared.outcomes.InstructionOutcome.{InstructionOutcome}
-use Rattle.simulation.specs.Collecting.{flips_frames, thread_flipped, with_flipped}
+use Rattle.simulation.specs.CollectorSteps.{flips_frames, thread_flipped, with_flipped}
 use Rattle.simulation.specs.MachineStates.{MachineState}
 use Rattle.simulation.specs.Transitions.{IsStatusTransition, IsThreadTransition, IsTransition, finish_step, left_by, live_thread}
 use Rattle.simulation.proofs.CollectorEvents.UnchangedState.{collected_keeps}
@@ -27,8 +27,8 @@ module _ (c : MachineState) (after : MachineState × Report) (t : ℕ) (x : Thre
   stepped n left a o apart is =
       let way = finished_by c n left a after o is in
       let left_there : slice_get (left_by c n left a).threads t ≡ Some x = set_other c.threads n t (live_thread left a.frames) (λ same. apart (sym same)) ∙ there in
-      let beside : slice_get way.threads t ≡ Some x = by_way way.threads way.posts left_there way.are in
-      subst Stays way.is (set_other way.threads n t (charge way.effect (live_thread left way.frames)).0 (λ same. apart (sym same)) ∙ beside)
+      let with_objects : slice_get way.threads t ≡ Some x = by_way way.threads way.posts left_there way.are in
+      subst Stays way.is (set_other way.threads n t (charge way.effect (live_thread left way.frames)).0 (λ same. apart (sym same)) ∙ with_objects)
     where
       by_way : (threads : List Thread) (posts : Handshakes) → slice_get (left_by c n left a).threads t ≡ Some x
           → ((threads ≡ (left_by c n left a).threads) × (posts ≡ c.posts)) ⊎ (HasBegun c.limits.budget (left_by c n left a).threads threads × (posts ≡ join_thread c.posts (length (left_by c n left a).threads) n)) → slice_get threads t ≡ Some x

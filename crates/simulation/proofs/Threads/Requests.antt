@@ -7,7 +7,7 @@ use Rattle.interpreter.specs.cil_model.declared.limits.TheConstants.{MOST_INSTRU
 use Rattle.interpreter.specs.cil_model.declared.reports.Fault.TheVariants.{NullReference}
 use Rattle.interpreter.specs.reference_machine.Values.{ObjectName, Born, Value as StateValue, Null, Reference}
 use Rattle.interpreter.specs.reference_machine.States.{HeapObject, Frame as StateFrame, State}
-use Rattle.interpreter.specs.reference_machine.Effects.{Setting, Effect as StateEffect, Raises as StateRaises, after, not_null}
+use Rattle.interpreter.specs.reference_machine.Effects.{StepContext, Effect as StateEffect, Raises as StateRaises, after, not_null}
 use Rattle.interpreter.specs.reference_machine.BuiltIn.{Action, act, thread_object}
 use Rattle.interpreter.proofs.reference_machine.TypedStates.RunningFrames.{IsTypedEffect}
 use Rattle.interpreter.proofs.reference_machine.TypedSteps.AllInstructions.{instruction_typed}
@@ -27,7 +27,7 @@ use Rattle.simulation.specs.Transitions.{after_request}
 use Rattle.simulation.proofs.ListLaws.AgreeingLists.{agree_length, agree_drop}
 use Rattle.simulation.proofs.Instructions.FrameProgress.{moved_frames, index_is_small}
 use Rattle.simulation.proofs.Instructions.Correspondence.{IsSetting, AsksFor}
-use Rattle.simulation.specs.Ready.{HasRequest}
+use Rattle.simulation.specs.ReadySteps.{HasRequest}
 use Rattle.simulation.proofs.Threads.NextInstruction.{setting_of, is_alive, is_running, in_setting}
 use Rattle.simulation.proofs.Threads.StepResults.{done}
 use Rattle.simulation.proofs.Memory.ThreadObjects.{reference_is, IsThreadObject, thread_object_is}
@@ -35,7 +35,7 @@ use Rattle.simulation.proofs.Memory.NamedAddresses.{named_is_not_null}
 use Rattle.simulation.proofs.Threads.LiveThreads.{own_model, own_names, own_reads}
 
 module _ (c : MachineState) (s : State) (r : Represents c s) (t left : ℕ) (m : Frames) (there : slice_get c.threads t ≡ Some (record { thread_status = Live m; steps_left = left })) where
-  abbrev pub here : Setting
+  abbrev pub here : StepContext
   here = setting_of c t false
 
   abbrev pub running : StateFrame

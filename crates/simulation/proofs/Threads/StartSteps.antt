@@ -43,7 +43,7 @@ use Rattle.simulation.proofs.Memory.ReferenceSlots.{IsLinked, hidden_says, typed
 use Rattle.simulation.proofs.Threads.LiveThreads.{FitsOwn, KeepsOwnNames, fits_of, names_of, normally, own_memory, own_model, own_names, own_passes, own_phase_is, room_of, seat}
 use Rattle.simulation.proofs.CollectedHeap.VisibleNames.{own_extends}
 use Rattle.collector.specs.Soundness.{IsListed}
-use Rattle.interpreter.specs.loaded_program.Prepared.{local_kinds}
+use Rattle.interpreter.specs.loaded_program.LocalKinds.{local_kinds}
 use Rattle.interpreter.specs.threads_monitors.Roots.{roots}
 use Rattle.interpreter.specs.cil_model.declared.limits.TheConstants.{MOST_THREADS}
 use Rattle.interpreter.specs.cil_model.declared.trees.Method.{Method}
@@ -224,7 +224,7 @@ module _ (c : MachineState) (s : State) (r : Represents c s) (t left : ℕ) (m :
 
       begun_memory : IsModelled c.tree (own_model c s r t left m there) (own_names c s r t left m there) decoded c.statics c.printed begun_state
       begun_memory = record {
-        fits = (own_model c s r t left m there).beside (own_names c s r t left m there) decoded c.statics (with_object s (Born number) marked) begun_state marked_fits (record { objects = refl; monitors = refl; statics = refl });
+        fits = (own_model c s r t left m there).with_objects (own_names c s r t left m there) decoded c.statics (with_object s (Born number) marked) begun_state marked_fits (record { objects = refl; monitors = refl; statics = refl });
         printed_is = (own_memory c s r t left m there).printed_is;
       }
 

@@ -30,7 +30,7 @@ use Rattle.interpreter.specs.Instructions.{IsDone, Answer}
 use Rattle.interpreter.specs.declared.outcomes.InstructionOutcome.{InstructionOutcome}
 use Rattle.interpreter.specs.declared.outcomes.InstructionOutcome.TheVariants.{OwnEffect, Starts, Joins}
 use Rattle.simulation.specs.MachineStates.{MachineState, mutator_of}
-use Rattle.simulation.specs.Collecting.{flips_frames, thread_flipped, threads_after, with_flipped}
+use Rattle.simulation.specs.CollectorSteps.{flips_frames, thread_flipped, threads_after, with_flipped}
 use Rattle.simulation.proofs.CollectorEvents.UnchangedState.{collected_keeps}
 use Rattle.simulation.specs.Sound.{AreSeated}
 use Rattle.simulation.specs.Transitions.{IsStatusTransition, IsThreadTransition, IsTransition, after_request, count_step, finish_step, left_by, run_member, start_thread, thread_at, thread_for, live_thread, seat_thread}

@@ -11,7 +11,7 @@ use Rattle.interpreter.specs.object_memory.declared.values.Value.{Value}
 use Rattle.interpreter.specs.object_memory.Objects.{Objects}
 use Rattle.collector.specs.phase_handshake.Handshakes.{Handshakes, join_thread, seat_of}
 use Rattle.collector.specs.phase_handshake.declared.posts.Seat.{Seat}
-use Rattle.collector.specs.Holding.{may_hold}
+use Rattle.collector.specs.Holds.{may_hold}
 use Rattle.collector.specs.Soundness.{IsListed}
 use Rattle.interpreter.specs.threads_monitors.Frames.{Frames}
 use Rattle.interpreter.specs.threads_monitors.Roots.{roots}
@@ -121,7 +121,7 @@ module _ (c : MachineState) (s : State) (r : Represents c s) (t left : ℕ) (m :
 
     -- ---- the whole
 
-    module _ (printed : List ℕ) (base : List Thread) (h : Handshakes) (beside : AreBeside base h o) where
+    module _ (printed : List ℕ) (base : List Thread) (h : Handshakes) (with_objects : AreBeside base h o) where
       module _ (threads : List Thread) (seats : List (Option Seat)) (were : (n : ℕ) (x : Seat) → seat_of (record c.posts { seats = seats }) n ≡ Some x → (k : ℕ) × (seat_of c.posts k ≡ Some x))
           (hold : (n left' : ℕ) (fs : Frames) (x : Seat) → slice_get threads n ≡ Some (record { thread_status = Live fs; steps_left = left' }) → seat_of (record c.posts { seats = seats }) n ≡ Some x → (a : Addr) → IsListed (roots fs) a → may_hold c.posts o.spaces x a ≡ true) where
         sound_with : AreSeated (record c.posts { seats = seats }) threads → IsSound (record c { threads = threads; posts = record c.posts { seats = seats }; objects = o; statics = ss; printed = printed })
@@ -142,22 +142,22 @@ module _ (c : MachineState) (s : State) (r : Represents c s) (t left : ℕ) (m :
         after = seats_after h t x.1
 
         after_is : after ≡ record c.posts { seats = after.seats }
-        after_is = counted_posts h t x.1 ∙ ap (λ (y : Handshakes). record y { seats = after.seats }) beside.posts
+        after_is = counted_posts h t x.1 ∙ ap (λ (y : Handshakes). record y { seats = after.seats }) with_objects.posts
 
         -- the machine is sound once the step is counted
         pub after_sound : AreSeated (seats_after h t (charge effect (live_thread left m')).1) (slice_set base t (charge effect (live_thread left m')).0) →
             IsSound (record c { threads = slice_set base t (charge effect (live_thread left m')).0; posts = seats_after h t (charge effect (live_thread left m')).1; objects = o; statics = ss; printed = printed })
         after_sound fit =
             subst (λ (y : Handshakes). IsSound (record c { threads = slice_set base t x.0; posts = y; objects = o; statics = ss; printed = printed })) (sym after_is)
-            (sound_with (slice_set base t x.0) after.seats (λ n y is. beside.were n y (counted_seat h t x.1 n y is)) hold (subst (λ (y : Handshakes). AreSeated y (slice_set base t x.0)) after_is fit))
+            (sound_with (slice_set base t x.0) after.seats (λ n y is. with_objects.were n y (counted_seat h t x.1 n y is)) hold (subst (λ (y : Handshakes). AreSeated y (slice_set base t x.0)) after_is fit))
           where
             hold : (n left' : ℕ) (fs : Frames) (y : Seat) → slice_get (slice_set base t x.0) n ≡ Some (record { thread_status = Live fs; steps_left = left' }) → seat_of after n ≡ Some y → (a : Addr) → IsListed (roots fs) a → may_hold c.posts o.spaces y a ≡ true
             hold n left' fs y at is a listed = elim (set_here_or_there base t n x.0 _ at) [
               | inl here ↦
-                  (let own : seat c s r t left m there ≡ y = same_Some (seat c s r t left m there) y (sym beside.own ∙ ap (seat_of h) (sym here.0) ∙ counted_seat h t x.1 n y is) in
+                  (let own : seat c s r t left m there ≡ y = same_Some (seat c s r t left m there) y (sym with_objects.own ∙ ap (seat_of h) (sym here.0) ∙ counted_seat h t x.1 n y is) in
                   subst (λ (z : Seat). may_hold c.posts o.spaces z a ≡ true) own
                   (own_may_hold c.tree c.limits.max_words c.posts c.progress (seat c s r t left m there) c.objects (normally c s r).name names o ss s' fits a (pass fs (ap (λ (z : Thread). z.thread_status) (sym here.1)) a listed)))
-              | inr other ↦ beside.others n left' fs y other.0 other.1 (counted_seat h t x.1 n y is) a listed
+              | inr other ↦ with_objects.others n left' fs y other.0 other.1 (counted_seat h t x.1 n y is) a listed
             ]
 
 -- ---- The step of a thread has the same result on both machines, for each effect of its instruction.
@@ -315,7 +315,7 @@ module _ (c : MachineState) (s : State) (r : Represents c s) (t left : ℕ) (m :
       IsEffect fits.whole (record c { threads = base; objects = o; statics = statics; printed = printed }) s' by t s (is_alive c s r t left m there).thread.frames effect m' (done refused) →
       FramesPass (own_passes c s r t left m there o) (charge effect (live_thread left m')).0.thread_status →
       Follows c s r t (count_step (record c { threads = threads; posts = h; objects = o; statics = statics; printed = printed }) t left effect m')
-  finish names threads base h o statics printed s' same fits room kept by beside refused effect refuses m' is pass =
+  finish names threads base h o statics printed s' same fits room kept by with_objects refused effect refuses m' is pass =
       let charge = charges_step fits.whole (record c { threads = base; objects = o; statics = statics; printed = printed }) s' by t s (is_alive c s r t left m there).thread.frames effect m' (done refused) is (left - 1) in
       let x : Thread × Report = status_after (end_after effect (left - 1)) m' (left - 1) effect in
       followed c s r t (slice_set threads t x.0) (seats_after h t x.1) o statics printed x.1 charge.0
@@ -323,7 +323,7 @@ module _ (c : MachineState) (s : State) (r : Represents c s) (t left : ℕ) (m :
       fits.whole
       (subst (λ ts. RefinesUnder fits.whole (record c { threads = ts; objects = o; statics = statics; printed = printed }) charge.0) (sym (same x.0)) charge.2)
       (λ fit. subst (λ ts. IsSound (record c { threads = ts; posts = seats_after h t x.1; objects = o; statics = statics; printed = printed })) (sym (same x.0))
-      (after_sound c s r t left m there names o statics s' fits printed base h beside effect m' pass (subst (AreSeated (seats_after h t x.1)) (same x.0) fit)))
+      (after_sound c s r t left m there names o statics s' fits printed base h with_objects effect m' pass (subst (AreSeated (seats_after h t x.1)) (same x.0) fit)))
       (subst (KeepsRoom c.tree (mutator_of c t).phase c.objects o s.objects) (sym charge.3) room)
       kept
 

@@ -25,7 +25,7 @@ use Rattle.simulation.specs.Refines.{IsThread, StatusRefines, Represents}
 use Rattle.simulation.specs.Transitions.{IsStatusTransition, IsThreadTransition, IsTransition, finish_step}
 use Rattle.simulation.proofs.ListLaws.AgreeingLists.{agree_at, agree_get}
 use Rattle.simulation.proofs.Instructions.Correspondence.{InstructionsAreAlike, EffectsAlike, is_refused_effect, is_refused_outcome, HasNoOwnRoom}
-use Rattle.simulation.specs.Ready.{IsReady, IsAnswerable}
+use Rattle.simulation.specs.ReadySteps.{IsReady, IsAnswerable}
 use Rattle.simulation.proofs.Threads.NextInstruction.{setting_of, is_alive, does_alike, live_is_ready, is_running}
 use Rattle.simulation.proofs.Threads.StepResults.{Follows, KeepsOwnRoom, done, gives, step_is}
 use Rattle.simulation.proofs.Threads.Requests.{here, running, below, Asks, asked_of, has_operand, index_below}
@@ -247,7 +247,7 @@ module _ (each : InstructionsAreAlike) (c : MachineState) (s : State) (r : Repre
         report = born.report;
         after = born.after;
         object = record { contents = e.contents; monitor = Free; thread = None };
-        unrefused = step_is c s r t left m there false ∙ ap (charge s t (left - 1) frames) e.is ∙ born.is;
+        without_refusal = step_is c s r t left m there false ∙ ap (charge s t (left - 1) frames) e.is ∙ born.is;
         is_born = born.objects;
         exceeds = beyond (cell_words c.tree e.contents) (room (spaces_of c.objects) (own_phase c.posts t)) (subst (λ n. n < cell_words c.tree e.contents) (sym room_is) e.exceeds);
       }
@@ -269,7 +269,7 @@ module _ (each : InstructionsAreAlike) (c : MachineState) (s : State) (r : Repre
       by_report : (b : Bool) → is_refusal after.1 ≡ b → (s' : State) × (step c.tree c.limits s t (is_refusal after.1) ≡ Answers after.1 s') × Represents after.0 s' × KeepsOwnRoom c s t after.0.objects s' → IsTrue b
       by_report true is follows = refl
       by_report false is follows =
-          let one : x.after ≡ follows.0 = same_after x.report after.1 x.after follows.0 (sym x.unrefused ∙ ap (step c.tree c.limits s t) (sym is) ∙ follows.1) in
+          let one : x.after ≡ follows.0 = same_after x.report after.1 x.after follows.0 (sym x.without_refusal ∙ ap (step c.tree c.limits s t) (sym is) ∙ follows.1) in
           let words : words_of_all c.tree follows.0.objects ≡ words_of_all c.tree s.objects + cell_words c.tree x.object.contents =
           ap (λ (y : State). words_of_all c.tree y.objects) (sym one) ∙ ap (words_of_all c.tree) x.is_born ∙ one_more c.tree s.objects x.object in
           let more : room (spaces_of c.objects) (own_phase c.posts t) < cell_words c.tree x.object.contents = is_beyond (cell_words c.tree x.object.contents) (room (spaces_of c.objects) (own_phase c.posts t)) x.exceeds in

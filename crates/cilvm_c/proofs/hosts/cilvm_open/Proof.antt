@@ -1,5 +1,5 @@
 -- `cilvm_open` meets its contract. The session is lent for the time of the call of `open`.
-use Rattle.cilvm_c.proofs.Names.{◌<◌, ◌^◌, ℕ, List, [], ◌∷◌, ◌++◌, length, refl, w32, proved, full_share, id⊢, Lft, Share, ftrue, flft, named, vptr, WpFn, fact, tables, ‵, raw, ◌⊛◌, some, later, prop, ◌$◌, ◌∵◌, !, qed, done, move, keep, use1, use2, split, join, fsplit, regoal, suffices, group, enter, of_opd, addr, stop, no_more, and_then, returns, alloc_all, pass_all, free_all, look_at, get, through, sets, lands_as, u8, u32, yes, uint_Lawful, owns, Ptr, RawPtr, block_ptr, in_a_block, rawptr_vals, rawptr_Tells, Bor, ShrRef, shr_vals, shr_Tells, plain, shr_slice_of, shr_ref_to, ShrSlice, Room, shr_slice_vals, shr_slice_Tells, nothing, calls_at, lasts, triple_of, framed, Stays, walk_of, stay_dropped, Goes-dropped, ends_at, host_limits, HostLimits, session, is_held, IsInitialBy, Held, lent, lends, comes_back}
+use Rattle.cilvm_c.proofs.Names.{◌<◌, ◌^◌, ℕ, List, [], ◌∷◌, ◌++◌, length, refl, w32, proved, full_share, id⊢, Lft, Share, ftrue, flft, named, vptr, WpFn, fact, tables, ‵, raw, ◌⊛◌, some, later, prop, ◌$◌, ◌∵◌, !, qed, done, move, keep, use1, use2, split, join, fsplit, regoal, suffices, group, enter, of_opd, addr, stop, no_more, and_then, returns, alloc_all, pass_all, free_all, look_at, get, through, sets, lands_as, u8, u32, yes, uint_Lawful, owns, Ptr, RawPtr, block_ptr, in_a_block, rawptr_vals, rawptr_Tells, Bor, ShrRef, shr_vals, shr_Tells, plain, shr_slice_of, shr_ref_to, ShrSlice, Room, shr_slice_vals, shr_slice_Tells, nothing, calls_at, lasts, triple_of, framed, Stays, walk_of, stay_dropped, Goes-dropped, ends_at, host_limits, HostLimits, session, is_held, IsInitialBy, SessionState, lent, lends, comes_back}
 use Rattle.cilvm_c.specs.contracts.hosts.cilvm_open as f
 use Rattle.cilvm_c.proofs.hosts.cilvm_open.Statement.{statement}
 use Rattle.cilvm_c.proofs.hosts.cilvm_open.Code as code
@@ -39,9 +39,9 @@ cilvm_open_spec 𝓤 𝓛 𝓜 𝓡 wired =
     nothing ! $ move ! (1 ∷ 0 ∷ []) $ use2 𝓛 (raw (G.pre z)) (id⊢ 𝓤 _) $
     calls_at ! (framed 𝓤 𝓛.H 𝓜 𝓣) G (met 𝓤 𝓛 𝓜 𝓡 (code.calls-cilvm_c::hosts::open 𝓡.env wired)) z
     (and_then ! (get ! refl) (and_then ! (get ! refl) (and_then ! (get ! refl) (no_more !)))) (λ v.
-    let P : ℕ → (Unit {0} × (Unit {0} × Unit {0})) → Held → Type 0 = λ u last after. IsInitialBy source.now limits.now u after in
+    let P : ℕ → (Unit {0} × (Unit {0} × Unit {0})) → SessionState → Type 0 = λ u last after. IsInitialBy source.now limits.now u after in
     use1 𝓛 (later (some (λ (u : ℕ). ((‵ (flft (α ∷ []) full_share) ⊛ (‵ (flft κ0 q0) ⊛ (‵ (flft κ1 q1) ⊛ ‵ ftrue))) ⊛ ‵ (u32.own_val u (v ∷ []))) ⊛
-    some (λ (ws : Held × (Unit {0} × (Unit {0} × Unit {0}))). ‵ (lasts g.ended z.0.0 z.0.3 ws) ⊛ raw (fact 𝓤 (P u ws.1 ws.0)))))) (id⊢ 𝓤 _) $
+    some (λ (ws : SessionState × (Unit {0} × (Unit {0} × Unit {0}))). ‵ (lasts g.ended z.0.0 z.0.3 ws) ⊛ raw (fact 𝓤 (P u ws.1 ws.0)))))) (id⊢ 𝓤 _) $
     comes_back ! tt b o u32 P (λ u ws is. lands_as ! refl refl ((uint_Lawful 𝓛 w32).typed u _ is).0 $
     returns ! (look_at ! 0 refl) $ free_all ! refl $ keep ! (0 ∷ 1 ∷ 3 ∷ []) $
     suffices ! _ (ends_at 𝓛 f.ended hs c (y (block_ptr b o)) v u (tt, (tt, (tt, tt))) (tt, (tt, (tt, tt)))) $

@@ -1,5 +1,5 @@
 -- `cilvm_steps` meets its contract. The session is lent for the time of the call of `steps`.
-use Rattle.cilvm_c.proofs.Names.{ℕ, [], ◌∷◌, ◌++◌, refl, w8, w32, proved, full_share, id⊢, Lft, Share, ftrue, flft, named, vptr, WpFn, fact, tables, ‵, raw, ◌⊛◌, some, later, prop, ◌$◌, ◌∵◌, !, qed, done, move, keep, use1, use2, split, join, fsplit, regoal, suffices, group, enter, of_opd, addr, stop, no_more, and_then, returns, alloc_all, pass_all, free_all, look_at, get, through, sets, lands_as, u8, u32, yes, uint_vals, uint_Tells, uint_Makes, uint_Lawful, owns, Ptr, RawPtr, block_ptr, in_a_block, rawptr_vals, rawptr_Tells, MutBor, MutRef, mut_vals, mut_Tells, plain, nothing, owned, calls_at, lasts, triple_of, framed, Stays, walk_of, stay_dropped, gave_ref, Goes-dropped, Goes-gave_ref, ends_at, session, is_held, Held, HasStepped, lent, lends, comes_back}
+use Rattle.cilvm_c.proofs.Names.{ℕ, [], ◌∷◌, ◌++◌, refl, w8, w32, proved, full_share, id⊢, Lft, Share, ftrue, flft, named, vptr, WpFn, fact, tables, ‵, raw, ◌⊛◌, some, later, prop, ◌$◌, ◌∵◌, !, qed, done, move, keep, use1, use2, split, join, fsplit, regoal, suffices, group, enter, of_opd, addr, stop, no_more, and_then, returns, alloc_all, pass_all, free_all, look_at, get, through, sets, lands_as, u8, u32, yes, uint_vals, uint_Tells, uint_Makes, uint_Lawful, owns, Ptr, RawPtr, block_ptr, in_a_block, rawptr_vals, rawptr_Tells, MutBor, MutRef, mut_vals, mut_Tells, plain, nothing, owned, calls_at, lasts, triple_of, framed, Stays, walk_of, stay_dropped, gave_ref, Goes-dropped, Goes-gave_ref, ends_at, session, is_held, SessionState, HasStepped, lent, lends, comes_back}
 use Rattle.cilvm_c.specs.contracts.hosts.cilvm_steps as f
 use Rattle.cilvm_c.proofs.hosts.cilvm_steps.Statement.{statement}
 use Rattle.cilvm_c.proofs.hosts.cilvm_steps.Code as code
@@ -40,9 +40,9 @@ cilvm_steps_spec 𝓤 𝓛 𝓜 𝓡 wired =
     nothing ! $ move ! (1 ∷ 0 ∷ []) $ use2 𝓛 (raw (G.pre z)) (id⊢ 𝓤 _) $
     calls_at ! (framed 𝓤 𝓛.H 𝓜 𝓣) G (met 𝓤 𝓛 𝓜 𝓡 (code.calls-cilvm_c::sessions::Session::steps 𝓡.env wired)) z
     (and_then ! (get ! refl) (and_then ! (get ! refl) (and_then ! (get ! refl) (and_then ! (get ! refl) (no_more !))))) (λ v.
-    let P : ℕ → (Unit {0} × (Unit {0} × (ℕ × Unit {0}))) → Held → Type 0 = λ u last after. HasStepped thread it most last.1.1.0 u after in
+    let P : ℕ → (Unit {0} × (Unit {0} × (ℕ × Unit {0}))) → SessionState → Type 0 = λ u last after. HasStepped thread it most last.1.1.0 u after in
     use1 𝓛 (later (some (λ (u : ℕ). ((‵ (flft (α ∷ []) full_share) ⊛ (‵ (flft κ0 q0) ⊛ ‵ ftrue)) ⊛ ‵ (u32.own_val u (v ∷ []))) ⊛
-    some (λ (ws : Held × (Unit {0} × (Unit {0} × (ℕ × Unit {0})))). ‵ (lasts g.ended z.0.0 z.0.3 ws) ⊛ raw (fact 𝓤 (P u ws.1 ws.0)))))) (id⊢ 𝓤 _) $
+    some (λ (ws : SessionState × (Unit {0} × (Unit {0} × (ℕ × Unit {0})))). ‵ (lasts g.ended z.0.0 z.0.3 ws) ⊛ raw (fact 𝓤 (P u ws.1 ws.0)))))) (id⊢ 𝓤 _) $
     comes_back ! tt b o u32 P (λ u ws is. lands_as ! refl refl ((uint_Lawful 𝓛 w32).typed u _ is).0 $
     -- [the result; the session; the other last values; the caller's tokens]
     move ! (2 ∷ []) $ fsplit ! $ move ! (1 ∷ []) $ fsplit ! $ move ! (1 ∷ []) $ fsplit ! $

@@ -3,7 +3,7 @@ use Rattle.cil_model.specs.declared.trees.Tree.{Tree}
 use Rattle.cil_model.specs.Chains.{longest_chain}
 use Rattle.cil_model.specs.Legality.{IsLegal}
 use Rattle.name_tables.specs.Numbers.{chain_numbers, declarations}
-use Rattle.resolved_code.specs.Resolved.{AreResolved}
+use Rattle.resolved_code.specs.ResolvedPrograms.{AreResolved}
 use Rattle.class_layout.proofs.classes.chains.Given as goal
 
 abbrev pub invariant-loop-class : goal.invariant-loop-class

@@ -7,7 +7,7 @@ use Rattle.cil_model.specs.Chains.{listed_by}
 use Rattle.name_tables.specs.Numbers.{declarations}
 use Rattle.resolved_code.specs.declared.classes.ResolvedClass.{ResolvedClass}
 use Rattle.resolved_code.specs.declared.classes.ResolvedMethod.{ResolvedMethod}
-use Rattle.resolved_code.specs.Resolved.{AllAlike, IsResolvedMethod}
+use Rattle.resolved_code.specs.ResolvedPrograms.{AllAlike, IsResolvedMethod}
 use Rattle.resolved_code.proofs.ListLaws.RelatedLists.{alike_length}
 use Rattle.class_layout.specs.Targets.{target_row, target_rows, targets_of}
 use Rattle.class_layout.proofs.ResolvedLaws.{IsClass, class_alike, class_pushed, classes_pushed, declared_at}

@@ -7,7 +7,7 @@ use Rattle.resolved_code.proofs.ListLaws.Repeats.{if_ok_then}
 use Rattle.name_tables.specs.Numbers.{declarations}
 use Rattle.name_tables.specs.Sameness.{identity_of}
 use Rattle.resolved_code.specs.Identities.{identity_number}
-use Rattle.resolved_code.specs.Resolved.{AreResolved, IsResolvedMethod}
+use Rattle.resolved_code.specs.ResolvedPrograms.{AreResolved, IsResolvedMethod}
 use Rattle.class_layout.specs.ByClass.{by_class}
 use Rattle.class_layout.specs.Targets.{target_number}
 use Rattle.class_layout.proofs.targets.class_row.Goals as goal

@@ -2,7 +2,7 @@ use Rattle.std.proofs.Common.{Bool, Some, None, if◌then◌else◌, sym, ap, �
 use Rattle.name_tables.specs.Sameness.{identity_of}
 use Rattle.class_layout.specs.ByClass.{by_class}
 use Rattle.class_layout.specs.Targets.{target_number}
-use Rattle.class_layout.proofs.RoleLaws.{is_virtual_by}
+use Rattle.class_layout.proofs.SlotUseLaws.{is_virtual_by}
 use Rattle.class_layout.proofs.targets.method_targets.Goals as goal
 
 pub returns-then-not-is_virtual : goal.returns-then-not-is_virtual

@@ -2,7 +2,7 @@ use Rattle.std.proofs.Common.{◌≡◌, ◌<◌, ◌∷◌, [], Some, length, m
 use Rattle.std.proofs.Math.Seq.{take-length}
 use Rattle.std.proofs.lemmas.List.{map-append}
 use Rattle.std.proofs.lemmas.Option.{slice_get_read, get_or_from_slice_get}
-use Rattle.resolved_code.specs.Resolved.{IsResolvedMethod}
+use Rattle.resolved_code.specs.ResolvedPrograms.{IsResolvedMethod}
 use Rattle.resolved_code.proofs.ListLaws.RelatedLists.{AlikeTo, alike_to, alike_length}
 use Rattle.class_layout.specs.Targets.{target_row, targets_of}
 use Rattle.class_layout.proofs.Indices.{push_takes}

@@ -2,7 +2,7 @@ use Rattle.std.proofs.Common.{◌≡◌, Some, map, take, slice_get}
 use Rattle.cil_model.specs.declared.types.ClassName.{ClassName}
 use Rattle.cil_model.specs.Declarations.{Declaration}
 use Rattle.name_tables.specs.Numbers.{declarations}
-use Rattle.resolved_code.specs.Resolved.{AllAlike, IsResolvedMethod}
+use Rattle.resolved_code.specs.ResolvedPrograms.{AllAlike, IsResolvedMethod}
 use Rattle.class_layout.specs.Targets.{target_row, targets_of}
 use Rattle.class_layout.proofs.targets.rows_of.Given as goal
 

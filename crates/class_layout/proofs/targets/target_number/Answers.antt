@@ -1,6 +1,6 @@
-use Rattle.class_layout.proofs.RoleLaws.{interface_target_alike, class_target_alike}
+use Rattle.class_layout.proofs.SlotUseLaws.{interface_target_alike, class_target_alike}
 use Rattle.std.proofs.Common.{ap, sym, ◌∙◌}
-use Rattle.class_layout.specs.Roles.{listed_implementation, filled_along}
+use Rattle.class_layout.specs.SlotUses.{listed_implementation, filled_along}
 use Rattle.class_layout.proofs.targets.target_number.Goals as goal
 
 pub returns-then-is_interface : goal.returns-then-is_interface

@@ -12,7 +12,7 @@ store_word-requires-clause-slots c = λ some. (
     let word = loaded_word r.0.cell p.copied_words p.attempt c.load_word.new.attempt (c.load_word.ensures r.0.cell r.0.at) some in (
       record {
         tree = r.0.tree;
-        laid = r.0.laid;
+        layout_is = r.0.layout_is;
         cell = r.0.cell;
         at = r.0.at;
         reference = λ holds. subst (λ w. is_there c.args.heap.now.spaces (reference_in w) ≡ true) (sym word) (r.0.reference holds);
@@ -21,13 +21,13 @@ store_word-requires-clause-slots c = λ some. (
     ))
 
 pub returns-then-progress-lt-MOST_FAILED_CHECKS : goal.returns-then-progress-lt-MOST_FAILED_CHECKS
-returns-then-progress-lt-MOST_FAILED_CHECKS c = λ tree laid cell at.
+returns-then-progress-lt-MOST_FAILED_CHECKS c = λ tree layout_is cell at.
     let p = c.args.progress.now in
     let o = c.args.heap.now in
     ap (λ n. (record p { cursor = n; attempt = c.load_word.new.attempt }, o)) (ap (λ (f : FoundObject). f.offset) c.requires.offset)
     ∙ begun_loads tree p o c.args.next.object cell c.args.copy c.load_word.new.attempt (c.load_word.ensures cell at) c.if-progress-lt-MOST_FAILED_CHECKS.true
 
 pub returns-else-progress-lt-MOST_FAILED_CHECKS : goal.returns-else-progress-lt-MOST_FAILED_CHECKS
-returns-else-progress-lt-MOST_FAILED_CHECKS c = λ tree laid cell at.
-    rw (c.pass_word.ensures cell at, c.store_word.ensures tree laid cell at)
+returns-else-progress-lt-MOST_FAILED_CHECKS c = λ tree layout_is cell at.
+    rw (c.pass_word.ensures cell at, c.store_word.ensures tree layout_is cell at)
     (begun_stores tree c.args.progress.now c.args.heap.now c.args.next.object cell c.args.copy c.load_word.new.attempt (c.load_word.ensures cell at) c.if-progress-lt-MOST_FAILED_CHECKS.false)

@@ -1,6 +1,6 @@
 use Rattle.std.proofs.Common.{◌++◌, ◌∷◌, ◌∙◌, [], ap₂, codes}
 use Rattle.std.specs.Prelude.{string_bytes}
-use Rattle.end_explanations.specs.Located.{located_text}
+use Rattle.end_explanations.specs.Locations.{located_text}
 use Rattle.end_explanations.proofs.texts.add_caller.Goals as goal
 
 pub returns : goal.returns

@@ -1,6 +1,6 @@
 use Rattle.std.proofs.Common.{◌∷◌, []}
 use Rattle.std.proofs.lemmas.Result.{on_err_weaker, on_ok_weaker}
-use Rattle.outputs.proofs.TakenLaws.{fails_first, fails_second, takes_both}
+use Rattle.outputs.proofs.StreamLaws.{fails_first, fails_second, takes_both}
 use Rattle.event_trace.proofs.Names.{on_err}
 use Rattle.event_trace.proofs.pieces.write_end.Goals as goal
 

@@ -1,7 +1,7 @@
 use Rattle.std.proofs.Common.{ap, ◌∙◌, sym, sum_by, arith}
 use Rattle.std.proofs.lemmas.List.Sums.{sum_by_push}
 use Rattle.std.specs.Vec.Iter.{into_iter_items}
-use Rattle.flip_stress.specs.Promised.{promised_by}
+use Rattle.flip_stress.specs.Promises.{promised_by}
 use Rattle.flip_stress.proofs.Taken.{all_taken, one_taken, sum_taken}
 use Rattle.flip_stress.proofs.stress.join_all.Goals as goal
 

@@ -1,6 +1,6 @@
 use Rattle.std.proofs.Common.{◌≡◌, ◌≤◌, ◌++◌, ◌*◌, length, sum_by, vec_len, vec_capacity}
 use Rattle.std.specs.Vec.Iter.{into_iter_items}
-use Rattle.flip_stress.specs.Promised.{promised_by}
+use Rattle.flip_stress.specs.Promises.{promised_by}
 use Rattle.flip_stress.specs.Stress.{own_count}
 use Rattle.flip_stress.proofs.stress.start_all.Given as goal
 

@@ -2,7 +2,7 @@ use Rattle.std.proofs.Common.{false, List, ◌∷◌, option_map, sym, ap, subst
 use Rattle.cil_model.specs.FlowRules.{StackAfter}
 use Rattle.cil_model.specs.TypeTree.{StackType}
 use Rattle.cil_model.specs.TypeTree as OnStack
-use Rattle.flow_rules.specs.Named.{type_named}
+use Rattle.flow_rules.specs.StackTypes.{type_named}
 use Rattle.flow_rules.specs.Flow.{IsAfter}
 use Rattle.flow_rules.proofs.MemberRules.{field_loaded}
 use Rattle.flow_rules.proofs.members.load_field.Goals as goal

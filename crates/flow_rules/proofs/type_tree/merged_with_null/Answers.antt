@@ -1,5 +1,5 @@
 use Rattle.std.proofs.Common.{sym, ◌∙◌}
-use Rattle.flow_rules.specs.Named.{type_named}
+use Rattle.flow_rules.specs.StackTypes.{type_named}
 use Rattle.flow_rules.proofs.AncestorChains.{null_apart}
 use Rattle.flow_rules.proofs.type_tree.merged_with_null.Goals as goal
 

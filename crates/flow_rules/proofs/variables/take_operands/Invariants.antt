@@ -1,6 +1,6 @@
 use Rattle.std.proofs.Common.{◌≡◌, take}
 use Rattle.cil_model.specs.FlowRules.{take_operands}
-use Rattle.flow_rules.specs.Named.{stack_types, types_named}
+use Rattle.flow_rules.specs.StackTypes.{stack_types, types_named}
 use Rattle.flow_rules.proofs.variables.take_operands.Given as goal
 
 abbrev pub invariant-loop-index : goal.invariant-loop-index

@@ -38,7 +38,7 @@ returns-in_default c =
     let marks = c.loop-class.walks in
     let class = c.loop-class.class in
     let inv = c.loop-class.invariant in
-    elim (inv.newly class c.in-Some.other (sym c.in-Some.ensures)) [
+    elim (inv.met_now class c.in-Some.other (sym c.in-Some.ensures)) [
       | inl h ↦ walk_joined c.args.bases.now old c.args.first c.args.walk marks class inv (c.in-Some.other, h)
       | inr n ↦ absurd (c.if-other-walk.false n.0.0)
     ]

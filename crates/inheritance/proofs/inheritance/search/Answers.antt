@@ -10,6 +10,6 @@ returns c =
     record {
       width = sym (length-map c.loop-time.scoped_table.changes.items (λ v. v.items)) ∙ r.width;
       ordered = r.up_to.ordered;
-      ended = λ class entry e. entered_ends f (map (λ v. v.items) c.loop-time.scoped_table.changes.items) class entry (r.entered class entry e);
-      right = λ class entry e key h. let was = r.entered class entry e in was.right key f.most h was.short;
+      ended = λ class entry e. entered_ends f (map (λ v. v.items) c.loop-time.scoped_table.changes.items) class entry (r.entries_are_entered class entry e);
+      lookup_is_correct = λ class entry e key h. let was = r.entries_are_entered class entry e in was.lookup_is_correct key f.most h was.length_is_bounded;
     }

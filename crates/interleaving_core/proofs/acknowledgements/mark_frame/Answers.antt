@@ -6,18 +6,18 @@ use Rattle.object_memory.specs.declared.values.Value.TheVariants.{Ref}
 use Rattle.object_memory.specs.Objects.{Objects}
 use Rattle.object_memory.specs.Spaces.{is_there}
 use Rattle.threads_monitors.specs.Roots.{frames_upward, reference_in, values_of}
-use Rattle.simulation.specs.instructions.barriers.Barriers.{is_value_there}
-use Rattle.simulation.specs.collector.Conditions.{AreThere}
-use Rattle.simulation.specs.collector.Marking.{with_all_marked}
+use Rattle.simulation.specs.instructions.barriers.Barriers.{is_value_in_heap}
+use Rattle.simulation.specs.collector.Conditions.{AreValuesInHeap}
+use Rattle.simulation.specs.collector.MarkSteps.{with_all_marked}
 use Rattle.simulation.specs.collector.Soundness.{IsListed}
-use Rattle.simulation.specs.Collecting.{with_roots_marked}
+use Rattle.simulation.specs.CollectorSteps.{with_roots_marked}
 use Rattle.interleaving_core.proofs.CollectorTransitions.FrameMarks.{cycle_kept, frame_marked, frame_of, listed_first, listed_second, object_is, there_kept, values_are, values_marked, values_there}
 use Rattle.interleaving_core.proofs.acknowledgements.mark_frame.Goals as goal
 
 pub mark_values-requires-clause-there : goal.mark_values-requires-clause-there
 mark_values-requires-clause-there c =
     let f = frame_of (slice_get (frames_upward c.args.frames.now) c.args.frame) c.values_of.result.now c.values_of.ensures in
-    subst (AreThere c.args.heap.now) f.2
+    subst (AreValuesInHeap c.args.heap.now) f.2
     (values_there c.args.heap.now (values_of f.0) (λ a listed. c.requires.there f.0 f.1 a (listed_first (filter_map reference_in (values_of f.0)) (option_to_list f.0.constructed) a listed)))
 
 pub mark_values-requires-in-Some-clause-open : goal.mark_values-requires-in-Some-clause-open
@@ -34,8 +34,8 @@ mark_values-requires-in-Some-clause-there c =
     (subst (λ (o : Option Addr). IsListed (option_to_list o) c.in-Some.object) (sym made) (inl refl)) in
     let marked = c.mark_values.ensures ∙ values_marked c.values_of.result.now c.args.heap.now in
     let there = there_kept (filter_map reference_in c.values_of.result.now) c.args.heap.now c.in-Some.object (c.requires.there f.0 f.1 c.in-Some.object listed) in
-    All-cons (λ v. is_value_there c.mark_values.new.heap v ≡ true) (Ref c.in-Some.object) []
-    (subst (λ (x : Objects). is_there x.spaces c.in-Some.object ≡ true) (sym marked) there) (All-nil (λ v. is_value_there c.mark_values.new.heap v ≡ true))
+    All-cons (λ v. is_value_in_heap c.mark_values.new.heap v ≡ true) (Ref c.in-Some.object) []
+    (subst (λ (x : Objects). is_there x.spaces c.in-Some.object ≡ true) (sym marked) there) (All-nil (λ v. is_value_in_heap c.mark_values.new.heap v ≡ true))
 
 pub returns-in-Some : goal.returns-in-Some
 returns-in-Some c = λ f is.

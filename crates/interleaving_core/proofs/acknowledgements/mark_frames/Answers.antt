@@ -6,7 +6,7 @@ use Rattle.object_memory.specs.Objects.{Objects}
 use Rattle.object_memory.specs.Spaces.{is_there}
 use Rattle.threads_monitors.specs.Frames.{Frame}
 use Rattle.threads_monitors.specs.Roots.{frame_roots, frames_upward}
-use Rattle.simulation.specs.Collecting.{with_roots_marked}
+use Rattle.simulation.specs.CollectorSteps.{with_roots_marked}
 use Rattle.interleaving_core.proofs.CollectorTransitions.FrameMarks.{cycle_kept, listed_in_frame, rest_marked, there_kept}
 use Rattle.interleaving_core.proofs.acknowledgements.mark_frames.Goals as goal
 

@@ -1,8 +1,8 @@
 use Rattle.std.proofs.Common.{◌≡◌, true, drop}
 use Rattle.std.specs.Prelude.{flat_map}
 use Rattle.threads_monitors.specs.Roots.{frame_roots, frames_upward, roots}
-use Rattle.simulation.specs.Collecting.{with_roots_marked}
-use Rattle.interleaving_core.specs.Acknowledging.{AreAllThere}
+use Rattle.simulation.specs.CollectorSteps.{with_roots_marked}
+use Rattle.interleaving_core.specs.Acknowledgements.{AreAllThere}
 use Rattle.interleaving_core.proofs.acknowledgements.mark_frames.Given as goal
 
 -- marking what is left, after what was marked, results in the marks of all

@@ -14,8 +14,8 @@ use Rattle.simulation.specs.collector.Phases.{no_progress}
 use Rattle.interleaving_core.proofs.InitialContents.InitialMachineState.{entry_there, opened_as}
 use Rattle.interleaving_core.proofs.initial_states.initial_parts.Goals as goal
 
-pub beginning-requires-clause-there : goal.beginning-requires-clause-there
-beginning-requires-clause-there c =
+pub thread_start-requires-clause-there : goal.thread_start-requires-clause-there
+thread_start-requires-clause-there c =
     let tree = c.args.program.now in
     let number = c.entry_point.result in
     let legal : IsLegal tree = subst IsLegal c.program.ensures c.tree.ensures.legal in
@@ -32,7 +32,7 @@ returns-clause-initial_state c =
     let is : IsEntryPoint tree number = subst (λ t. IsEntryPoint t number) c.program-2.ensures c.entry_point.ensures in
     let entry = entry_there tree legal number is in
     let there : slice_get (all_methods tree) c.number-entry.result ≡ Some entry.0 = c.number-entry.ensures entry.0 entry.1 in
-    let first : c.in_ok-first.first ≡ thread_at limits entry.0 [] c.number-entry.result = c.in_ok-first.ensures ∙ c.beginning.ensures.begins entry.0 there [] in
+    let first : c.in_ok-first.first ≡ thread_at limits entry.0 [] c.number-entry.result = c.in_ok-first.ensures ∙ c.thread_start.ensures.begins entry.0 there [] in
     let threads : c.push.new.self.items ≡ thread_at limits entry.0 [] c.number-entry.result ∷ [] =
     c.in_ok-push.ensures.items ∙ ap (λ (ts : List Thread). ts ++ c.in_ok-first.first ∷ []) c.new-threads.ensures.items ∙ ap (λ t. t ∷ []) first in
     let classes : c.as_slice.result.now ≡ tree.classes = c.as_slice.ensures ∙ ap (λ t. t.classes) (c.tree.ensures.whole ∙ c.program.ensures) in

@@ -1,6 +1,6 @@
 use Rattle.std.specs.Prelude.{is_some}
 use Rattle.std.proofs.Common.{◌≡◌, sym, ap, ◌∙◌, None, option_map}
-use Rattle.simulation.specs.loaded_program.Prepared.{action_named}
+use Rattle.simulation.specs.loaded_program.LocalKinds.{action_named}
 use Rattle.interleaving_core.specs.Waits.{called_member}
 use Rattle.interleaving_core.proofs.Threads.AwaitedObjects.{member_acts, no_member}
 use Rattle.interleaving_core.proofs.waits.action_at.Goals as goal

@@ -1,6 +1,6 @@
 use Rattle.std.proofs.Common.{◌≡◌, sym, ap, ◌∙◌, Some, option_map}
 use Rattle.reference_machine.specs.BuiltIn as BuiltIn
-use Rattle.simulation.specs.loaded_program.Prepared.{action_named}
+use Rattle.simulation.specs.loaded_program.LocalKinds.{action_named}
 use Rattle.simulation.specs.interpreter.Calls.{top_reference}
 use Rattle.interleaving_core.specs.Waits.{action_at}
 use Rattle.interleaving_core.proofs.waits.wait_in.Goals as goal

@@ -2,8 +2,8 @@ use Rattle.std.proofs.Common.{◌≡◌, ap, sym, subst, ◌∙◌, option_map, 
 use Rattle.std.specs.Prelude.{IsSome, slice_get}
 use Rattle.reference_machine.specs.BuiltIn.{action_of}
 use Rattle.loaded_program.specs.AllMethods.{all_methods}
-use Rattle.loaded_program.specs.Prepared.{action_named}
-use Rattle.loaded_program.specs.Loaded.{IsLoadedMethod}
+use Rattle.loaded_program.specs.LocalKinds.{action_named}
+use Rattle.loaded_program.specs.LoadedPrograms.{IsLoadedMethod}
 use Rattle.instructions.specs.Calls.{new_object_transition}
 use Rattle.interpreter.proofs.MethodsToRun.{there_is, given_there, called_alike, made_plain, made_called}
 use Rattle.interpreter.proofs.calls.create.Goals as goal

@@ -1,6 +1,6 @@
 use Rattle.std.proofs.Common.{◌≡◌, ap, sym, subst, ◌∙◌, true, Some}
 use Rattle.std.specs.Prelude.{IsSome, IfOk, OnErr, is_some}
-use Rattle.interpreter.specs.Calls.{prints, call_answer}
+use Rattle.interpreter.specs.Calls.{grows_console, call_answer}
 use Rattle.interpreter.proofs.VirtualReceivers.{receiving, choosing, on_null, target_runs, target_there}
 use Rattle.interpreter.proofs.calls.run_virtual.Goals as goal
 
@@ -33,6 +33,6 @@ returns-clause-done c =
 
 pub returns-clause-prints : goal.returns-clause-prints
 returns-clause-prints c =
-    subst (λ t. OnErr c.run.result (prints c.args.store.now.console.items t ≡ true))
+    subst (λ t. OnErr c.run.result (grows_console c.args.store.now.console.items t ≡ true))
     (sym (target_runs c.args.program.now c.args.mutator c.args.number c.args.operands c.args.frames.now c.args.store.now.heap c.args.store.now.console.items c.requires c.receiver-object.result c.receiver-object.ensures (sym c.is_null.ensures ∙ c.if-is_null.false) c.class_id.result c.target-target.result
     c.class_id.ensures c.target-target.ensures)) c.run.ensures.prints

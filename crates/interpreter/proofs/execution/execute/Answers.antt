@@ -1,6 +1,6 @@
 use Rattle.std.proofs.Common.{sym, subst}
 use Rattle.cil_model.specs.declared.trees.Tree.{Tree}
-use Rattle.loaded_program.specs.class_layout.Laid.{IsLayout}
+use Rattle.loaded_program.specs.class_layout.Layouts.{IsLayout}
 use Rattle.interpreter.proofs.execution.execute.Goals as goal
 
 pub store_reference-effect-requires-clause-layout : goal.store_reference-effect-requires-clause-layout

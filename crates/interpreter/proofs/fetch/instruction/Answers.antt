@@ -1,7 +1,7 @@
 use Rattle.std.proofs.Common.{sym, ap, subst, ◌∙◌}
 use Rattle.std.specs.Prelude.{IsSome}
 use Rattle.std.proofs.lemmas.Result.{IfOk-weaker, on_err_weaker}
-use Rattle.loaded_program.specs.Loaded.{line_in}
+use Rattle.loaded_program.specs.LoadedPrograms.{line_in}
 use Rattle.interpreter.specs.Instructions.{is_printing}
 use Rattle.interpreter.proofs.LinkedExecution.{linked_here, resolved, is_at, is_small, does_the_same, has_answer}
 use Rattle.interpreter.proofs.PrintedResults.{instruction_prints}

@@ -1,13 +1,13 @@
 use Rattle.std.proofs.Common.{◌≡◌, ap, sym, subst, ◌∙◌, option_map, Some, Bor, get_or}
 use Rattle.std.proofs.lemmas.Option.{get_or_from_slice_get, slice_get_within}
 use Rattle.std.specs.Prelude.{slice_get, is_some}
-use Rattle.resolved_code.specs.Resolved.{IsResolvedMethod}
+use Rattle.resolved_code.specs.ResolvedPrograms.{IsResolvedMethod}
 use Rattle.resolved_code.specs.declared.classes.Body.{Body}
 use Rattle.loaded_program.specs.AllMethods.{all_methods}
-use Rattle.loaded_program.specs.Loaded.{IsLoadedMethod}
+use Rattle.loaded_program.specs.LoadedPrograms.{IsLoadedMethod}
 use Rattle.loaded_program.proofs.OperandLaws.{map_some}
 use Rattle.interpreter.specs.Instructions.{IsAt}
-use Rattle.interpreter.proofs.ResolvedInstructions.{Lined, lined, Placed, placed, method_is_there, method_is_resolved}
+use Rattle.interpreter.proofs.ResolvedInstructions.{Lined, lined, BodyAtPc, body_at_pc, method_is_there, method_is_resolved}
 use Rattle.interpreter.proofs.fetch.operation_at.Goals as goal
 
 pub method-requires-2 : goal.method-requires-2
@@ -27,8 +27,8 @@ unreachable-requires-in_default-body_of c =
     let known : IsLoadedMethod c.args.program.now here.found c.method-2.result.now = c.method-2.ensures.loaded here.found (ap (slice_get (all_methods c.args.program.now)) c.method.ensures ∙ here.found_is) in
     let resolved : IsResolvedMethod c.args.program.now here.found.1 c.in-Some.method.now =
     method_is_resolved c.args.program.now c.program.result.now c.program.ensures c.method-2.result.now.member here.found known.member c.method-3.result c.method-3.ensures c.in-Some.method c.in-Some.is in
-    let pc : Placed c.args.program.now c.args.frames.now (option_map (λ (b : Bor Body). b.now) c.body_of.result) =
-    placed c.args.program.now c.args.frames.now here (option_map (λ (b : Bor Body). b.now) c.body_of.result) (c.body_of.ensures c.args.program.now here.found.1.kind resolved.kind) in
+    let pc : BodyAtPc c.args.program.now c.args.frames.now (option_map (λ (b : Bor Body). b.now) c.body_of.result) =
+    body_at_pc c.args.program.now c.args.frames.now here (option_map (λ (b : Bor Body). b.now) c.body_of.result) (c.body_of.ensures c.args.program.now here.found.1.kind resolved.kind) in
     let met = map_some (λ (b : Bor Body). b.now) c.body_of.result pc.body pc.body_is in
     c.in_default-body_of.not-Some met.0 met.1
 
@@ -38,8 +38,8 @@ bounds-as_slice-pc c =
     let known : IsLoadedMethod c.args.program.now here.found c.method-2.result.now = c.method-2.ensures.loaded here.found (ap (slice_get (all_methods c.args.program.now)) c.method.ensures ∙ here.found_is) in
     let resolved : IsResolvedMethod c.args.program.now here.found.1 c.in-Some.method.now =
     method_is_resolved c.args.program.now c.program.result.now c.program.ensures c.method-2.result.now.member here.found known.member c.method-3.result c.method-3.ensures c.in-Some.method c.in-Some.is in
-    let pc : Placed c.args.program.now c.args.frames.now (option_map (λ (b : Bor Body). b.now) c.body_of.result) =
-    placed c.args.program.now c.args.frames.now here (option_map (λ (b : Bor Body). b.now) c.body_of.result) (c.body_of.ensures c.args.program.now here.found.1.kind resolved.kind) in
+    let pc : BodyAtPc c.args.program.now c.args.frames.now (option_map (λ (b : Bor Body). b.now) c.body_of.result) =
+    body_at_pc c.args.program.now c.args.frames.now here (option_map (λ (b : Bor Body). b.now) c.body_of.result) (c.body_of.ensures c.args.program.now here.found.1.kind resolved.kind) in
     let met : option_map (λ (b : Bor Body). b.now) c.body_of.result ≡ Some c.in-Some-body_of.body.now = ap (option_map (λ (b : Bor Body). b.now)) c.in-Some-body_of.is in
     let is = pc.body_is in
     let same : pc.body ≡ c.in-Some-body_of.body.now = cc in
@@ -53,8 +53,8 @@ returns c =
     let known : IsLoadedMethod c.args.program.now here.found c.method-2.result.now = c.method-2.ensures.loaded here.found (ap (slice_get (all_methods c.args.program.now)) c.method.ensures ∙ here.found_is) in
     let resolved : IsResolvedMethod c.args.program.now here.found.1 c.in-Some.method.now =
     method_is_resolved c.args.program.now c.program.result.now c.program.ensures c.method-2.result.now.member here.found known.member c.method-3.result c.method-3.ensures c.in-Some.method c.in-Some.is in
-    let pc : Placed c.args.program.now c.args.frames.now (option_map (λ (b : Bor Body). b.now) c.body_of.result) =
-    placed c.args.program.now c.args.frames.now here (option_map (λ (b : Bor Body). b.now) c.body_of.result) (c.body_of.ensures c.args.program.now here.found.1.kind resolved.kind) in
+    let pc : BodyAtPc c.args.program.now c.args.frames.now (option_map (λ (b : Bor Body). b.now) c.body_of.result) =
+    body_at_pc c.args.program.now c.args.frames.now here (option_map (λ (b : Bor Body). b.now) c.body_of.result) (c.body_of.ensures c.args.program.now here.found.1.kind resolved.kind) in
     let met : option_map (λ (b : Bor Body). b.now) c.body_of.result ≡ Some c.in-Some-body_of.body.now = ap (option_map (λ (b : Bor Body). b.now)) c.in-Some-body_of.is in
     let is = pc.body_is in
     let same : pc.body ≡ c.in-Some-body_of.body.now = cc in

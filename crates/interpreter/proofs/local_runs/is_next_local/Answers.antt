@@ -1,6 +1,6 @@
 use Rattle.std.proofs.Common.{sym, subst}
 use Rattle.std.specs.Prelude.{IsSome}
-use Rattle.loaded_program.specs.Loaded.{line_in}
+use Rattle.loaded_program.specs.LoadedPrograms.{line_in}
 use Rattle.interpreter.proofs.LinkedExecution.{linked_here}
 use Rattle.interpreter.proofs.LocalSteps.{next_is}
 use Rattle.interpreter.proofs.local_runs.is_next_local.Goals as goal

@@ -1,6 +1,6 @@
 use Rattle.std.proofs.Common.{length, refl, sym, subst, ◌∙◌}
 use Rattle.std.proofs.lemmas.Option.{same_Some, slice_get_read, slice_get_within}
-use Rattle.loaded_program.specs.Loaded.{IsLinkedAt}
+use Rattle.loaded_program.specs.LoadedPrograms.{IsLinkedAt}
 use Rattle.interpreter.proofs.LocalSteps.{linked_in}
 use Rattle.interpreter.proofs.local_runs.line_of.Goals as goal
 

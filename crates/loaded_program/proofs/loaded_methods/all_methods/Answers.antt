@@ -9,10 +9,10 @@ use Rattle.cil_model.specs.Declarations.{Declaration}
 use Rattle.name_tables.specs.Numbers.{declarations}
 use Rattle.resolved_code.specs.declared.classes.ResolvedClass.{ResolvedClass}
 use Rattle.resolved_code.specs.declared.classes.ResolvedMethod.{ResolvedMethod}
-use Rattle.resolved_code.specs.Resolved.{AllAlike, IsResolvedMethod, IsResolvedClass}
+use Rattle.resolved_code.specs.ResolvedPrograms.{AllAlike, IsResolvedMethod, IsResolvedClass}
 use Rattle.loaded_program.specs.declared.loaded_methods.LoadedMethod.{LoadedMethod}
 use Rattle.loaded_program.specs.AllMethods.{owned_methods}
-use Rattle.loaded_program.specs.Loaded.{IsLoadedMethod}
+use Rattle.loaded_program.specs.LoadedPrograms.{IsLoadedMethod}
 use Rattle.resolved_code.proofs.ListLaws.RelatedLists.{AlikeTo, alike_to, alike_length}
 use Rattle.loaded_program.proofs.FlatLaws.{alike_after, classes_more}
 use Rattle.loaded_program.proofs.loaded_methods.all_methods.Goals as goal

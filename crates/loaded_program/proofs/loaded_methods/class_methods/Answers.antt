@@ -3,10 +3,10 @@ use Rattle.std.proofs.Math.Seq.{take-length}
 use Rattle.std.proofs.lemmas.Option.{slice_get_read}
 use Rattle.cil_model.specs.declared.types.ClassName.{ClassName}
 use Rattle.cil_model.specs.declared.trees.Method.{Method}
-use Rattle.resolved_code.specs.Resolved.{AllAlike, IsResolvedMethod}
+use Rattle.resolved_code.specs.ResolvedPrograms.{AllAlike, IsResolvedMethod}
 use Rattle.loaded_program.specs.declared.loaded_methods.LoadedMethod.{LoadedMethod}
 use Rattle.loaded_program.specs.AllMethods.{owned_methods}
-use Rattle.loaded_program.specs.Loaded.{IsLoadedMethod}
+use Rattle.loaded_program.specs.LoadedPrograms.{IsLoadedMethod}
 use Rattle.resolved_code.proofs.ListLaws.RelatedLists.{AlikeTo, alike_to, alike_length}
 use Rattle.loaded_program.proofs.FlatLaws.{alike_more, owned_count, owned_at, id_at}
 use Rattle.loaded_program.proofs.loaded_methods.class_methods.Goals as goal

@@ -2,9 +2,9 @@ use Rattle.std.proofs.Common.{◌≡◌, Some, take, slice_get}
 use Rattle.cil_model.specs.declared.types.ClassName.{ClassName}
 use Rattle.cil_model.specs.Declarations.{Declaration}
 use Rattle.name_tables.specs.Numbers.{declarations}
-use Rattle.resolved_code.specs.Resolved.{AllAlike, IsResolvedMethod}
+use Rattle.resolved_code.specs.ResolvedPrograms.{AllAlike, IsResolvedMethod}
 use Rattle.loaded_program.specs.AllMethods.{owned_methods}
-use Rattle.loaded_program.specs.Loaded.{IsLoadedMethod}
+use Rattle.loaded_program.specs.LoadedPrograms.{IsLoadedMethod}
 use Rattle.loaded_program.proofs.loaded_methods.class_methods.Given as goal
 
 abbrev pub invariant-loop-index : goal.invariant-loop-index

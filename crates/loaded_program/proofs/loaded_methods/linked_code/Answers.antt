@@ -2,10 +2,10 @@ use Rattle.std.proofs.Common.{◌≡◌, ◌+◌, List, length, take, arith, ref
 use Rattle.std.proofs.Math.Seq.{take-length}
 use Rattle.std.proofs.lemmas.Option.{slice_get_read}
 use Rattle.resolved_code.specs.declared.operations.Operation.{Operation}
-use Rattle.resolved_code.specs.Resolved.{AllAlike}
+use Rattle.resolved_code.specs.ResolvedPrograms.{AllAlike}
 use Rattle.loaded_program.proofs.FlatLaws.{alike_more}
 use Rattle.loaded_program.specs.declared.instructions.LinkedInstruction.{LinkedInstruction}
-use Rattle.loaded_program.specs.Loaded.{IsLinkedOperation}
+use Rattle.loaded_program.specs.LoadedPrograms.{IsLinkedOperation}
 use Rattle.loaded_program.proofs.loaded_methods.linked_code.Goals as goal
 
 pub loop-operation-preserved : goal.loop-operation-preserved

@@ -1,6 +1,6 @@
 use Rattle.std.proofs.Common.{take}
-use Rattle.resolved_code.specs.Resolved.{AllAlike}
-use Rattle.loaded_program.specs.Loaded.{IsLinkedOperation}
+use Rattle.resolved_code.specs.ResolvedPrograms.{AllAlike}
+use Rattle.loaded_program.specs.LoadedPrograms.{IsLinkedOperation}
 use Rattle.loaded_program.proofs.loaded_methods.linked_code.Given as goal
 
 abbrev pub invariant-loop-operation : goal.invariant-loop-operation

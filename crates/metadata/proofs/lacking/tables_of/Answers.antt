@@ -1,7 +1,7 @@
 use Rattle.std.proofs.Common.{◌≡◌, ◌+◌, ◌∷◌, ◌++◌, ℕ, zero, suc, Bool, Vec, Global, List, [], Some, length, slice_get, sym, ap, ◌∙◌, subst}
 use Rattle.std.proofs.lemmas.List.{length-append}
 use Rattle.std.proofs.lemmas.Option.{same_Some, none-some}
-use Rattle.metadata.specs.Implemented.{IsTable}
+use Rattle.metadata.specs.InterfaceTables.{IsTable}
 use Rattle.metadata.proofs.lacking.tables_of.Goals as goal
 
 -- one more after others

@@ -1,5 +1,5 @@
 use Rattle.std.proofs.Common.{◌≡◌, length}
-use Rattle.metadata.specs.Implemented.{AreTables}
+use Rattle.metadata.specs.InterfaceTables.{AreTables}
 use Rattle.metadata.proofs.lacking.tables_of.Given as goal
 
 abbrev pub invariant-loop-interface : goal.invariant-loop-interface

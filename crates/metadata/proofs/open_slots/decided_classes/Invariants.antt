@@ -1,5 +1,5 @@
 use Rattle.std.proofs.Common.{◌≡◌, length}
-use Rattle.metadata.specs.Open.{AreDecided}
+use Rattle.metadata.specs.OpenSlots.{AreDecided}
 use Rattle.metadata.proofs.open_slots.decided_classes.Given as goal
 
 abbrev pub invariant-loop-class : goal.invariant-loop-class

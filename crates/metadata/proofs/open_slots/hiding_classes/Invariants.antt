@@ -1,4 +1,4 @@
-use Rattle.metadata.specs.Open.{AreClear}
+use Rattle.metadata.specs.OpenSlots.{AreClear}
 use Rattle.metadata.proofs.open_slots.hiding_classes.Given as goal
 
 abbrev pub invariant-loop-index : goal.invariant-loop-index

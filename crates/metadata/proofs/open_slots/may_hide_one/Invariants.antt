@@ -1,7 +1,7 @@
 use Rattle.std.proofs.Common.{◌≡◌, map, drop}
 use Rattle.std.specs.List.{list_any}
 use Rattle.name_tables.specs.Methods.{line_of}
-use Rattle.metadata.specs.Open.{hides_one}
+use Rattle.metadata.specs.OpenSlots.{hides_one}
 use Rattle.metadata.proofs.open_slots.may_hide_one.Given as goal
 
 abbrev pub invariant-loop-method : goal.invariant-loop-method

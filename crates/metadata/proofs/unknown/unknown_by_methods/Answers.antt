@@ -1,6 +1,6 @@
 use Rattle.std.proofs.Common.{map, ap, ◌∙◌}
 use Rattle.std.specs.List.{list_all}
-use Rattle.metadata.specs.Named.{knows_names}
+use Rattle.metadata.specs.NameChecks.{knows_names}
 use Rattle.resolved_code.proofs.ListLaws.Repeats.{if_ok_then}
 use Rattle.metadata.proofs.unknown.unknown_by_methods.Goals as goal
 

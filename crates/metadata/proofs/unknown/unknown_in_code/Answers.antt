@@ -3,7 +3,7 @@ use Rattle.std.specs.List.{list_all}
 use Rattle.std.proofs.lemmas.List.{at_drop_all}
 use Rattle.cil_model.specs.declared.trees.Class.{Class}
 use Rattle.cil_model.specs.Declarations.{method_members}
-use Rattle.metadata.specs.Named.{knows_names}
+use Rattle.metadata.specs.NameChecks.{knows_names}
 use Rattle.resolved_code.proofs.ListLaws.Tests.{all_after}
 use Rattle.metadata.proofs.WalkLaws.{all_fail}
 use Rattle.metadata.proofs.unknown.unknown_in_code.Goals as goal

@@ -1,7 +1,7 @@
 use Rattle.std.proofs.Common.{◌≡◌, drop}
 use Rattle.std.specs.List.{list_all}
 use Rattle.cil_model.specs.Declarations.{method_members}
-use Rattle.metadata.specs.Named.{knows_names}
+use Rattle.metadata.specs.NameChecks.{knows_names}
 use Rattle.metadata.proofs.unknown.unknown_in_code.Given as goal
 
 abbrev pub invariant-loop-class : goal.invariant-loop-class

@@ -1,7 +1,7 @@
 use Rattle.std.proofs.Common.{Bool, is_none, refl, sym, ap, ◌∙◌, arith, Bor}
 use Rattle.std.specs.List.{list_all}
 use Rattle.cil_model.specs.declared.trees.Method.{Method}
-use Rattle.metadata.specs.Named.{knows_names}
+use Rattle.metadata.specs.NameChecks.{knows_names}
 use Rattle.metadata.proofs.WalkLaws.{all_fail_in, all_after_in, none_left_in}
 use Rattle.metadata.proofs.unknown.unknown_in_methods.Goals as goal
 

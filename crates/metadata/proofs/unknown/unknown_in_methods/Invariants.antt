@@ -1,6 +1,6 @@
 use Rattle.std.proofs.Common.{◌≡◌, map, drop}
 use Rattle.std.specs.List.{list_all}
-use Rattle.metadata.specs.Named.{knows_names}
+use Rattle.metadata.specs.NameChecks.{knows_names}
 use Rattle.metadata.proofs.unknown.unknown_in_methods.Given as goal
 
 abbrev pub invariant-loop-index : goal.invariant-loop-index

@@ -1,5 +1,5 @@
 use Rattle.std.proofs.Common.{◌≡◌, length, vec_len, map, take, drop, ap, ◌∙◌, arith, rules}
-use Rattle.name_tables.specs.Inherited.{number_in}
+use Rattle.name_tables.specs.KeyIds.{number_in}
 use Rattle.name_tables.proofs.Lists.{at_end, one_more_row, own_within, own_first, others_after}
 use Rattle.name_tables.proofs.inherited.own_numbers.Goals as goal
 

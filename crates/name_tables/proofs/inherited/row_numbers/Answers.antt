@@ -1,5 +1,5 @@
 use Rattle.std.proofs.Common.{map}
-use Rattle.name_tables.specs.Inherited.{number_in}
+use Rattle.name_tables.specs.KeyIds.{number_in}
 use Rattle.name_tables.proofs.Lists.{at_end, one_more_item}
 use Rattle.name_tables.proofs.inherited.row_numbers.Goals as goal
 

@@ -1,5 +1,5 @@
 use Rattle.std.proofs.Common.{◌≡◌, map, take}
-use Rattle.name_tables.specs.Inherited.{number_in}
+use Rattle.name_tables.specs.KeyIds.{number_in}
 use Rattle.name_tables.proofs.inherited.row_numbers.Given as goal
 
 abbrev pub invariant-loop-index : goal.invariant-loop-index

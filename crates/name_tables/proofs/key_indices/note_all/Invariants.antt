@@ -2,7 +2,7 @@ use Rattle.std.proofs.Common.{◌≡◌, is_some, map, take}
 use Rattle.std.specs.HashMap.{get}
 use Rattle.cil_model.specs.Legality.{has_repeat}
 use Rattle.name_tables.specs.FirstIndices.{AreFirst}
-use Rattle.name_tables.specs.Inherited.{number_in}
+use Rattle.name_tables.specs.KeyIds.{number_in}
 use Rattle.name_tables.proofs.key_indices.note_all.Given as goal
 
 abbrev pub invariant-loop-index : goal.invariant-loop-index

@@ -7,7 +7,7 @@ use Rattle.name_tables.specs.declared.keys.CallNumber.{CallNumber}
 use Rattle.name_tables.specs.Entries.{declaration_in}
 use Rattle.name_tables.specs.Methods.{identity_number, call_of}
 use Rattle.name_tables.specs.Numbers.{declarations}
-use Rattle.name_tables.specs.Sameness.{identity_of, called_of}
+use Rattle.name_tables.specs.Sameness.{identity_of, call_identity_of}
 use Rattle.name_tables.proofs.MethodNumbers.{of_tables, same_count, calls_by_numbers}
 use Rattle.inheritance.proofs.Results.{if_three}
 use Rattle.name_tables.proofs.members.all_calls.Goals as goal
@@ -27,9 +27,9 @@ returns c =
     let numbers : map (λ (r : Vec ℕ Global). r.items) c.as_slice-numbers.result.now ≡ map (λ (t : ClassTable). map (λ (m : Method). number (identity_of m)) (declaration_in t.class).methods) tables =
     ap (map (λ (r : Vec ℕ Global). r.items)) c.as_slice-numbers.ensures.value ∙ c.requires.methods.numbers ∙ of_tables tables tree (λ (e : ClassName × Declaration). map (λ (m : Method). number (identity_of m)) e.1.methods) c.all.ensures in
     let rows = map (λ (r : Vec CallNumber Global). r.items) c.as_slice.result.now in
-    let are : rows ≡ map (λ (e : ClassName × Declaration). map (λ (m : Method). call_of number (called_of m)) e.1.methods) (declarations tree) =
+    let are : rows ≡ map (λ (e : ClassName × Declaration). map (λ (m : Method). call_of number (call_identity_of m)) e.1.methods) (declarations tree) =
     ap (map (λ (r : Vec CallNumber Global). r.items)) c.as_slice.ensures.value ∙ c.in_ok-rows.ensures number numbers ∙
-    sym (of_tables tables tree (λ (e : ClassName × Declaration). map (λ (m : Method). call_of number (called_of m)) e.1.methods) c.all.ensures) in
+    sym (of_tables tables tree (λ (e : ClassName × Declaration). map (λ (m : Method). call_of number (call_identity_of m)) e.1.methods) c.all.ensures) in
     let made = c.new.ensures in
     if_three c.new.result made.bases made.most made.indices (λ t bases most indices. record {
       bases = bases ∙ c.requires.bases;

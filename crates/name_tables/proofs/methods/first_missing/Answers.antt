@@ -2,7 +2,7 @@ use Rattle.std.proofs.Common.{ℕ, ◌==◌, Some, is_some, refl, sym, ap, ◌�
 use Rattle.std.specs.List.{list_all}
 use Rattle.std.proofs.lemmas.List.{drop_all}
 use Rattle.inheritance.specs.ScopedTables.{nearest_from}
-use Rattle.name_tables.specs.Inherited.{number_in}
+use Rattle.name_tables.specs.KeyIds.{number_in}
 use Rattle.name_tables.proofs.Lists.{all_fail, all_after}
 use Rattle.name_tables.proofs.methods.first_missing.Goals as goal
 

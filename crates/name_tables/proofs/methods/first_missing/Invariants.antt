@@ -2,7 +2,7 @@ use Rattle.std.proofs.Common.{◌≡◌, ◌==◌, ◌<◌, ℕ, Some, is_some, 
 use Rattle.std.specs.List.{list_all}
 use Rattle.inheritance.specs.Lines.{Ends}
 use Rattle.inheritance.specs.ScopedTables.{nearest_from}
-use Rattle.name_tables.specs.Inherited.{number_in}
+use Rattle.name_tables.specs.KeyIds.{number_in}
 use Rattle.name_tables.proofs.methods.first_missing.Given as goal
 
 abbrev pub invariant-loop-index : goal.invariant-loop-index

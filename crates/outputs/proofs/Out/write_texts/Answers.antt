@@ -1,6 +1,6 @@
 use Rattle.std.proofs.Common.{Bor, List, Result, Ok, Err, subst, ℕ}
 use Rattle.std.specs.Prelude.{OnErr}
-use Rattle.outputs.specs.Taken.{Fails, HasGrown}
+use Rattle.outputs.specs.Streams.{Fails, HasGrown}
 use Rattle.outputs.proofs.BeginningLaws.{begins_piece}
 use Rattle.outputs.proofs.Out.write_texts.Goals as goal
 

@@ -1,5 +1,5 @@
 use Rattle.std.proofs.Common.{flat_map, take}
-use Rattle.outputs.specs.Taken.{Takes}
+use Rattle.outputs.specs.Streams.{Takes}
 use Rattle.outputs.proofs.Out.write_texts.Given as goal
 
 -- the texts so far are taken

@@ -1,6 +1,6 @@
 use Rattle.std.proofs.Common.{◌∙◌}
 use Rattle.outputs.proofs.BeginningLaws.{taken_more}
-use Rattle.outputs.proofs.TakenLaws.{took_some}
+use Rattle.outputs.proofs.StreamLaws.{took_some}
 use Rattle.outputs.proofs.Out.write_whole.Goals as goal
 
 pub loop-rest-preserved : goal.loop-rest-preserved

@@ -1,7 +1,7 @@
 use Rattle.std.proofs.Common.{subst}
 use Rattle.std.proofs.lemmas.Result.{on_err_weaker, on_ok_weaker}
-use Rattle.outputs.specs.Taken.{Fails, Takes}
-use Rattle.outputs.proofs.TakenLaws.{fails_first, fails_second, takes_both}
+use Rattle.outputs.specs.Streams.{Fails, Takes}
+use Rattle.outputs.proofs.StreamLaws.{fails_first, fails_second, takes_both}
 use Rattle.shared_machine.specs.Histories.{events_of, reports_of}
 use Rattle.run_statistics.specs.Lines.{heap_words, steps_text, total_text}
 use Rattle.run_statistics.proofs.LineLemmas.{on_err}

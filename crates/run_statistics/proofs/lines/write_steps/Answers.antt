@@ -1,6 +1,6 @@
 use Rattle.std.proofs.Common.{◌≡◌, ◌++◌, arith, subst, sym}
-use Rattle.outputs.specs.Taken.{Fails, Takes}
-use Rattle.outputs.proofs.TakenLaws.{fails_first, fails_second, takes_both}
+use Rattle.outputs.specs.Streams.{Fails, Takes}
+use Rattle.outputs.proofs.StreamLaws.{fails_first, fails_second, takes_both}
 use Rattle.shared_machine.specs.Histories.{events_of, reports_of}
 use Rattle.run_statistics.specs.Lines.{steps_text, thread_text}
 use Rattle.run_statistics.proofs.LineLemmas.{on_err, steps_around, steps_more}

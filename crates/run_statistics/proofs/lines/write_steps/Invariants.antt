@@ -1,4 +1,4 @@
-use Rattle.outputs.specs.Taken.{Takes}
+use Rattle.outputs.specs.Streams.{Takes}
 use Rattle.shared_machine.specs.Histories.{events_of, reports_of}
 use Rattle.run_statistics.specs.Lines.{steps_text}
 use Rattle.run_statistics.proofs.lines.write_steps.Given as goal

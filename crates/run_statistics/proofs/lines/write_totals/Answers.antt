@@ -1,6 +1,6 @@
 use Rattle.std.proofs.Common.{◌∙◌, ap, decimal, subst}
 use Rattle.std.proofs.lemmas.Result.{on_err_weaker, on_ok_weaker}
-use Rattle.outputs.specs.Taken.{Fails, Takes}
+use Rattle.outputs.specs.Streams.{Fails, Takes}
 use Rattle.run_statistics.proofs.LineLemmas.{total_pieces}
 use Rattle.run_statistics.proofs.lines.write_totals.Goals as goal
 

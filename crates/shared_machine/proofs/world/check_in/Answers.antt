@@ -5,7 +5,7 @@ use Rattle.interleaving_core.specs.Loans.{IsAtOrigin, Lent}
 use Rattle.interleaving_core.specs.simulation.MachineStates.{MachineState}
 use Rattle.interleaving_core.specs.simulation.Runs.{AreTransitions}
 use Rattle.shared_machine.specs.Histories.{Log, entry}
-use Rattle.shared_machine.specs.Worlds.{IsCheckedIn, Shown, is_lent_in, lent_of}
+use Rattle.shared_machine.specs.Worlds.{IsCheckedIn, WorldState, is_lent_in, lent_of}
 use Rattle.shared_machine.specs.declared.history.Entry.{Entry}
 use Rattle.shared_machine.proofs.Bounds.{same_within}
 use Rattle.shared_machine.proofs.Lendings.{checked_in, lent_within, room_back, same_tree, shown_as, small_step, sound_times, world_at}
@@ -61,7 +61,7 @@ returns-clause-done g c =
     let lent = ap (λ rooms. is_lent_in (lent_of rooms) c.thread-thread.result) (sym c.deref.ensures.value) ∙ sym c.is_lent.ensures ∙ c.if-not-is_lent.false in
     let at = subst (IsAtOrigin c.world.inside.core) c.lent.view_is (c.is_at_origin.ensures.0 c.if-not-is_at_origin.false) in
     let t = c.args.ticket.now in
-    subst (λ (w : Shown). IsCheckedIn w t c.args.lent c.step_count-times.result (shown_as c.take_back.new.self c.record_steps.new.history.entries c.record_steps.new.book (lent_of (slice_set c.world.inside.rooms.items c.from.result (Some c.take_back.result))) c.world.inside.stopped) c.record_steps.new.ticket) c.world.view_is
+    subst (λ (w : WorldState). IsCheckedIn w t c.args.lent c.step_count-times.result (shown_as c.take_back.new.self c.record_steps.new.history.entries c.record_steps.new.book (lent_of (slice_set c.world.inside.rooms.items c.from.result (Some c.take_back.result))) c.world.inside.stopped) c.record_steps.new.ticket) c.world.view_is
     (checked_in c.world.inside.core c.take_back.new.self c.world.inside.history.entries c.record_steps.new.history.entries c.world.inside.book c.record_steps.new.book c.world.inside.stopped c.world.inside.rooms.items c.from.result c.step_count-times.result
     c.thread-thread.result c.take_back.result t c.record_steps.new.ticket c.args.lent c.from.ensures (c.step_count-times.ensures ∙ ap (λ (l : Lent). l.done) c.lent.view_is) (c.thread-thread.ensures ∙ ap (λ (l : Lent). l.thread) c.lent.view_is)
     lent at transitions (c.record_steps.ensures.history ∙ ap (λ (h : List Entry). h ++ replicate c.step_count-times.result (entry t.worker (Step c.thread-thread.result) Ran)) before) c.record_steps.ensures.book c.record_steps.ensures.ticket)

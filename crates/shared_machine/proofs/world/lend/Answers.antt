@@ -6,7 +6,7 @@ use Rattle.interleaving_core.specs.simulation.MachineStates.{MachineState}
 use Rattle.interleaving_core.specs.simulation.threads_monitors.Threads.{is_live_at}
 use Rattle.interleaving_core.specs.simulation.threads_monitors.declared.threads.Thread.{Thread}
 use Rattle.interleaving_core.proofs.Threads.IndexedThreads.{live_within}
-use Rattle.shared_machine.specs.Worlds.{HasRooms, IsLentOut, Shown, is_lent_in, lent_of}
+use Rattle.shared_machine.specs.Worlds.{HasRooms, IsLentOut, WorldState, is_lent_in, lent_of}
 use Rattle.shared_machine.proofs.Lendings.{lent_out, nothing_taken, read_room, same_tree, shown_as, taken_rooms}
 use Rattle.shared_machine.proofs.world.lend.Goals as goal
 
@@ -24,7 +24,7 @@ returns-in_err-room-clause-none g c _ =
     let there = read_room c.world.inside.rooms.items c.args.thread c.from.result c.index_mut.result.now c.from.ensures inside c.index_mut.ensures.value in
     let nothing = nothing_taken c.world.inside.core c.world.inside.history.entries c.world.inside.book c.world.inside.stopped c.world.inside.rooms.items c.args.thread c.from.result c.index_mut.result.now c.take.new.self c.from.ensures there
     (sym c.take.ensures.value ∙ c.in_err-room.was) c.take.ensures.after in
-    (nothing.0 ∙ c.world.view_is, inr (ap (λ (w : Shown). is_lent_in w.lent c.args.thread) (sym c.world.view_is) ∙ nothing.1))
+    (nothing.0 ∙ c.world.view_is, inr (ap (λ (w : WorldState). is_lent_in w.lent c.args.thread) (sym c.world.view_is) ∙ nothing.1))
 
 pub lend-requires-clause-tree : goal.lend-requires-clause-tree
 lend-requires-clause-tree g c =
@@ -51,4 +51,4 @@ returns-clause-some g c =
     let there = read_room c.world.inside.rooms.items c.args.thread c.from.result c.index_mut.result.now c.from.ensures inside c.index_mut.ensures.value in
     let out = lent_out c.world.inside.core c.world.inside.history.entries c.world.inside.book c.world.inside.stopped c.world.inside.rooms.items c.args.thread c.from.result c.index_mut.result.now c.take.new.self c.in_ok-room.room c.lend.result c.from.ensures there
     (sym c.take.ensures.value ∙ c.in_ok-room.was) c.take.ensures.after live c.lend.ensures in
-    subst (λ (w : Shown). IsLentOut w c.args.thread c.lend.result (shown_as c.world.inside.core c.world.inside.history.entries c.world.inside.book (lent_of (slice_set c.world.inside.rooms.items c.from.result c.take.new.self)) c.world.inside.stopped)) c.world.view_is out
+    subst (λ (w : WorldState). IsLentOut w c.args.thread c.lend.result (shown_as c.world.inside.core c.world.inside.history.entries c.world.inside.book (lent_of (slice_set c.world.inside.rooms.items c.from.result c.take.new.self)) c.world.inside.stopped)) c.world.view_is out

@@ -5,7 +5,7 @@ use Rattle.interpreter.specs.cil_model.declared.instructions.Instruction.{Instru
 use Rattle.interpreter.specs.cil_model.Mentions.{literals_of}
 use Rattle.interpreter.specs.reference_machine.Values.{Value as StateValue, Born, Literal, ObjectName, Reference}
 use Rattle.interpreter.specs.reference_machine.States.{Frame as StateFrame, State, Monitor as StateMonitor, Free as IsFree, Held as IsHeld, with_monitor as with_state_monitor}
-use Rattle.interpreter.specs.reference_machine.Effects.{Setting, Effect as StateEffect, when_some as given_there, onward as onward_frame, Blocks as StateBlocks, Raises as StateRaises}
+use Rattle.interpreter.specs.reference_machine.Effects.{StepContext, Effect as StateEffect, when_some as given_there, onward as onward_frame, Blocks as StateBlocks, Raises as StateRaises}
 use Rattle.interpreter.specs.reference_machine.BuiltIn.{Action, Construct, Write, Enter, Exit, Start, Join, act, line_of as state_line_of, enter, exit}
 use Rattle.interpreter.proofs.reference_machine.TypedStates.RunningFrames.{IsTypedEffect}
 use Rattle.interpreter.specs.resolved_code.declared.operations.Operation.{Operation}
@@ -18,9 +18,9 @@ use Rattle.interpreter.specs.threads_monitors.Frames.{Frames, with_pc, with_stac
 use Rattle.interpreter.specs.threads_monitors.declared.effects.Effect.{Effect}
 use Rattle.interpreter.specs.threads_monitors.declared.effects.Effect.TheVariants.{Continues, Blocks, Raises}
 use Rattle.interpreter.specs.instructions.Frames.{when_some, top_of, onward}
-use Rattle.interpreter.specs.instructions.ObjectTransitions.{beside}
-use Rattle.interpreter.specs.instructions.BuiltInTransitions.{line_of, print_bytes as printed_line, reference_from, carry, is_countable}
-use Rattle.interpreter.specs.Calls.{CallTransition, act_transition, asks, beside_console, top_reference, call_answer}
+use Rattle.interpreter.specs.instructions.ObjectTransitions.{with_objects}
+use Rattle.interpreter.specs.instructions.BuiltInTransitions.{line_of, print_bytes as printed_line, reference_from, pop_if_continues, is_countable}
+use Rattle.interpreter.specs.Calls.{CallTransition, act_transition, request_outcome, with_console, top_reference, call_answer}
 use Rattle.interpreter.specs.Instructions.{of_calls, answer_of}
 use Rattle.interpreter.specs.declared.outcomes.InstructionOutcome.{InstructionOutcome}
 use Rattle.interpreter.specs.declared.outcomes.InstructionOutcome.TheVariants.{OwnEffect, Starts, Joins}
@@ -69,7 +69,7 @@ lowered thread count = by_test (nat_le count 1)
     by_test true = tt
     by_test false = (refl, refl)
 
-module _ (here : Setting) (model : MemoryModel here.tree) (name : Names) (m : Frames) (o : Objects) (statics : List Value) (printed : List ℕ) (s : State) (f : StateFrame) (below : List StateFrame) (i : Instruction) (operation : Operation)
+module _ (here : StepContext) (model : MemoryModel here.tree) (name : Names) (m : Frames) (o : Objects) (statics : List Value) (printed : List ℕ) (s : State) (f : StateFrame) (below : List StateFrame) (i : Instruction) (operation : Operation)
     (at : IsSetting here model name m o statics printed s f below i operation)
     (rest : List Value) (rest' : List StateValue) (others : Agree (IsValue name) rest rest') where
   abbrev MonitorAlike : CallTransition → StateEffect → Type 0
@@ -77,7 +77,7 @@ module _ (here : Setting) (model : MemoryModel here.tree) (name : Names) (m : Fr
 
   -- what a transition carries: the objects, and its outcome
   abbrev carrying : Objects × Effect → CallTransition
-  carrying x = beside_console printed (carry m (with_stack m rest) x)
+  carrying x = with_console printed (pop_if_continues m (with_stack m rest) x)
 
   blocks_alike : (transition : CallTransition) → transition ≡ carrying (o, Blocks) → MonitorAlike transition StateBlocks
   blocks_alike transition is = record { answer = answer_of m o statics printed (OwnEffect Blocks); is = ap (of_calls o statics printed) is; refuses = λ _ h. never h; alike = λ r. (refl, refl, (refl, refl, refl)) }
@@ -93,7 +93,7 @@ module _ (here : Setting) (model : MemoryModel here.tree) (name : Names) (m : Fr
         let after : IsChanged here.tree model name o statics printed here.limits s a n new changed = there.changes new changed h in
         record {
           answer = answer_of (with_pc (with_stack m rest) (m.running.pc + 1)) (stored_monitor model.phase o a new) statics printed (OwnEffect Continues);
-          is = ap (of_calls o statics printed) is ∙ ap (λ x. of_calls o statics printed (beside_console printed (beside (stored_monitor model.phase o a new) x))) (onward_is here model name m o statics printed s f below i operation at rest);
+          is = ap (of_calls o statics printed) is ∙ ap (λ x. of_calls o statics printed (with_console printed (with_objects (stored_monitor model.phase o a new) x))) (onward_is here model name m o statics printed s f below i operation at rest);
           refuses = λ _ h. never h;
           alike = λ r. onward_alike here model name m o statics printed s f below i operation at name (λ b k e. e) (stored_monitor model.phase o a new) statics printed (with_state_monitor s n changed) after.others after.memory rest rest' others;
         }
@@ -131,13 +131,13 @@ module _ (here : Setting) (model : MemoryModel here.tree) (name : Names) (m : Fr
 
   module _ (a : Addr) (top : m.running.stack ≡ Ref a ∷ rest) where
     abbrev enters_by : Bool → Bool → Objects × Effect → CallTransition
-    enters_by is_null can x = beside_console printed (if is_null || can then carry m (with_stack m rest) x else None)
+    enters_by is_null can x = with_console printed (if is_null || can then pop_if_continues m (with_stack m rest) x else None)
 
     enter_is : act_transition here.tree (mutator_in here model) Enter m o printed ≡ enters_by (a.number == 0) (is_countable (monitor_at o a) && storable a) (with_entry (mutator_in here model) o a)
-    enter_is = ap (λ x. beside_console printed (reference_from x m (λ b k. if (b.number == 0) || (is_countable (monitor_at o b) && storable b) then carry m k (with_entry (mutator_in here model) o b) else None))) top
+    enter_is = ap (λ x. with_console printed (reference_from x m (λ b k. if (b.number == 0) || (is_countable (monitor_at o b) && storable b) then pop_if_continues m k (with_entry (mutator_in here model) o b) else None))) top
 
     exit_is : act_transition here.tree (mutator_in here model) Exit m o printed ≡ enters_by (a.number == 0) (is_some (monitor_at o a) && storable a) (with_exit (mutator_in here model) o a)
-    exit_is = ap (λ x. beside_console printed (reference_from x m (λ b k. if (b.number == 0) || (is_some (monitor_at o b) && storable b) then carry m k (with_exit (mutator_in here model) o b) else None))) top
+    exit_is = ap (λ x. with_console printed (reference_from x m (λ b k. if (b.number == 0) || (is_some (monitor_at o b) && storable b) then pop_if_continues m k (with_exit (mutator_in here model) o b) else None))) top
 
     module _ (n : ObjectName) (named : name a.number ≡ Some n) where
       there : IsMonitorAt here.tree model name o statics printed here.limits s a n
@@ -199,7 +199,7 @@ one_taken {X} (suc (suc n)) (y ∷ z ∷ zs) x enough is =
     let one : length (reverse (y ∷ z ∷ take n zs)) ≡ 1 = ap (λ (l : List X). length l) is in
     absurd (omega (arith, many, one))
 
-module _ (here : Setting) (s : State) (f : StateFrame) (below : List StateFrame) where
+module _ (here : StepContext) (s : State) (f : StateFrame) (below : List StateFrame) where
   -- without an operand it is stuck
   none_sticks : (a : Action) (rest : List StateValue) → IsTypedEffect here.tree (act here s f below a [] rest) → ⊥
   none_sticks Construct rest t = t
@@ -234,13 +234,13 @@ module _ (tree : Tree) (name : Names) (o : Objects) (s : State) (heap : IsReadab
 pub memory_printed : (tree : Tree) (model : MemoryModel tree) (name : Names) (o : Objects) (statics : List Value) (printed : List ℕ) (s : State) → IsModelled tree model name o statics printed s → (line : List ℕ) →
     IsModelled tree model name o statics (printed ++ line) (record s { printed = s.printed ++ line })
 memory_printed tree model name o statics printed s memory line = record {
-  fits = model.beside name o statics s (record s { printed = s.printed ++ line }) memory.fits (record { objects = refl; monitors = refl; statics = refl });
+  fits = model.with_objects name o statics s (record s { printed = s.printed ++ line }) memory.fits (record { objects = refl; monitors = refl; statics = refl });
   printed_is = ap (λ x. x ++ line) memory.printed_is;
 }
 
 -- ---- Built-in members do the same on both machines.
 
-module _ (here : Setting) (model : MemoryModel here.tree) (name : Names) (m : Frames) (o : Objects) (statics : List Value) (print_bytes : List ℕ) (s : State) (f : StateFrame) (below : List StateFrame) (i : Instruction) (operation : Operation)
+module _ (here : StepContext) (model : MemoryModel here.tree) (name : Names) (m : Frames) (o : Objects) (statics : List Value) (print_bytes : List ℕ) (s : State) (f : StateFrame) (below : List StateFrame) (i : Instruction) (operation : Operation)
     (at : IsSetting here model name m o statics print_bytes s f below i operation) where
   abbrev Alike : CallTransition → StateEffect → Type 0
   Alike transition e = DoesAlike here model name m o statics print_bytes s f below (of_calls o statics print_bytes transition) e
@@ -260,7 +260,7 @@ module _ (here : Setting) (model : MemoryModel here.tree) (name : Names) (m : Fr
     constructs : Acts Construct
     constructs t = record {
       answer = answer_of (popped rest) o statics print_bytes (OwnEffect Continues);
-      is = ap (λ x. of_calls o statics print_bytes (top_of x m (λ w n. beside_console print_bytes (beside o (onward n))))) top ∙ ap (λ x. of_calls o statics print_bytes (beside_console print_bytes (beside o x))) (onward_popped rest);
+      is = ap (λ x. of_calls o statics print_bytes (top_of x m (λ w n. with_console print_bytes (with_objects o (onward n))))) top ∙ ap (λ x. of_calls o statics print_bytes (with_console print_bytes (with_objects o x))) (onward_popped rest);
       refuses = λ _ h. never h;
       alike = λ r. next_alike here model name m o statics print_bytes s f below i operation at rest rest' others;
     }
@@ -289,7 +289,7 @@ module _ (here : Setting) (model : MemoryModel here.tree) (name : Names) (m : Fr
     asked : (action : Action) (a : Addr) (outcome : InstructionOutcome) → v ≡ Ref a → AsksFor here model name m o statics print_bytes s f below action a (answer_of m o statics print_bytes outcome) (act here s f below action (u ∷ []) rest')
     asked action a outcome is = record { operand = u; rest = rest'; stack = top'; refines = subst (λ x. IsValue name x u) is refines; is = refl; frames = refl; memory = (refl, refl, refl) }
 
-    asks_is : (what : Addr → InstructionOutcome) (a : Addr) → v ≡ Ref a → of_calls o statics print_bytes (asks what m o print_bytes) ≡ Some (answer_of m o statics print_bytes (what a))
+    asks_is : (what : Addr → InstructionOutcome) (a : Addr) → v ≡ Ref a → of_calls o statics print_bytes (request_outcome what m o print_bytes) ≡ Some (answer_of m o statics print_bytes (what a))
     asks_is what a is = ap (λ x. of_calls o statics print_bytes (option_map (λ b. call_answer m o print_bytes (what b)) (top_reference x))) (top ∙ ap (λ x. x ∷ rest) is)
 
     starts_of : (a : Addr) → v ≡ Ref a → Alike (act_transition here.tree (mutator_in here model) Start m o print_bytes) (act here s f below Start (u ∷ []) rest')

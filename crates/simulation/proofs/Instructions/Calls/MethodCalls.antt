@@ -10,13 +10,13 @@ use Rattle.interpreter.specs.cil_model.Assignable.{type_of_class}
 use Rattle.interpreter.specs.cil_model.Bodies.{argument_types, reference_operands, virtual_reference}
 use Rattle.interpreter.specs.reference_machine.Values.{Value as StateValue, ObjectName, Reference}
 use Rattle.interpreter.specs.reference_machine.States.{Frame as StateFrame, State, class_of}
-use Rattle.interpreter.specs.reference_machine.Effects.{Setting, Effect as StateEffect, Sticks, when_some as given_there, are_of_kinds}
+use Rattle.interpreter.specs.reference_machine.Effects.{StepContext, Effect as StateEffect, Sticks, when_some as given_there, are_of_kinds}
 use Rattle.interpreter.specs.reference_machine.Steps.{run_method, operands, execute, run_virtual}
 use Rattle.interpreter.proofs.reference_machine.Programs.FoundMethods.{IsFound, found}
 use Rattle.interpreter.proofs.reference_machine.TypedStates.RunningFrames.{IsTypedEffect}
 use Rattle.interpreter.specs.name_tables.declared.ids.MethodId.{MethodId}
 use Rattle.interpreter.specs.resolved_code.ById.{class_name}
-use Rattle.interpreter.specs.resolved_code.Resolved.{IsMethod}
+use Rattle.interpreter.specs.resolved_code.ResolvedPrograms.{IsMethod}
 use Rattle.interpreter.specs.resolved_code.declared.operations.Operation.TheVariants as Resolved
 use Rattle.interpreter.specs.object_memory.declared.values.Value.{Value}
 use Rattle.interpreter.specs.object_memory.Objects.{Objects}
@@ -70,7 +70,7 @@ operand_count _ r c m _ is same = absurd cc
 
 -- ---- operands that are of their kinds
 
-module _ (here : Setting) (s : State) (f : StateFrame) (below : List StateFrame) (types : List DeclaredType) (go : List StateValue → List StateValue → StateEffect) where
+module _ (here : StepContext) (s : State) (f : StateFrame) (below : List StateFrame) (types : List DeclaredType) (go : List StateValue → List StateValue → StateEffect) where
   -- where they aren't, the instruction is stuck
   pub operands_there : (P : StateEffect → Type 0) → (n : ℕ) → length types ≡ n → IsTypedEffect here.tree (operands here s f below types go) →
       (nat_le n (length f.stack) ≡ true → IsTypedEffect here.tree (go (reverse (take n f.stack)) (drop n f.stack)) → P (go (reverse (take n f.stack)) (drop n f.stack))) → P (operands here s f below types go)
@@ -89,7 +89,7 @@ module _ (here : Setting) (s : State) (f : StateFrame) (below : List StateFrame)
 
 -- ---- calls
 
-module _ (here : Setting) (model : MemoryModel here.tree) (name : Names) (m : Frames) (o : Objects) (statics : List Value) (printed : List ℕ) (s : State) (f : StateFrame) (below : List StateFrame) where
+module _ (here : StepContext) (model : MemoryModel here.tree) (name : Names) (m : Frames) (o : Objects) (statics : List Value) (printed : List ℕ) (s : State) (f : StateFrame) (below : List StateFrame) where
   pub call_alike : (is_instance : Bool) (r : MethodReference) (owner : ℕ) (method : MethodId) → class_name here.tree owner ≡ Some r.owner → IsMethod here.tree is_instance r method →
       IsSetting here model name m o statics printed s f below (Named.Call is_instance r) (Resolved.Call is_instance owner method) →
       DoesAlike here model name m o statics printed s f below (operation_transition here.tree (mutator_in here model) (Resolved.Call is_instance owner method) m o statics printed) (execute here s f below (Named.Call is_instance r))
@@ -221,7 +221,7 @@ last_taken {X} (suc n) (v ∷ w ∷ vs) y ys few e =
 -- ---- the call
 
 module _ (methods_run_alike : MethodsRunAlike) where
-  module _ (here : Setting) (model : MemoryModel here.tree) (name : Names) (m : Frames) (o : Objects) (statics : List Value) (printed : List ℕ) (s : State) (f : StateFrame) (below : List StateFrame) where
+  module _ (here : StepContext) (model : MemoryModel here.tree) (name : Names) (m : Frames) (o : Objects) (statics : List Value) (printed : List ℕ) (s : State) (f : StateFrame) (below : List StateFrame) where
     abbrev Alike : CallTransition → StateEffect → Type 0
     Alike transition e = DoesAlike here model name m o statics printed s f below (of_calls o statics printed transition) e
 

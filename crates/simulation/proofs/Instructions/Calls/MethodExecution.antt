@@ -6,15 +6,15 @@ use Rattle.std.specs.Option.{option_map_or}
 use Rattle.interpreter.specs.cil_model.declared.reports.Fault.TheVariants.{StackOverflow}
 use Rattle.interpreter.specs.cil_model.Bodies.{argument_types, code_of}
 use Rattle.interpreter.specs.reference_machine.Values.{Value as StateValue, ObjectName, Reference, is_of_kind}
-use Rattle.interpreter.specs.reference_machine.Effects.{Effect as StateEffect, Raises as StateRaises, Setting, Goes, when_some as given_there, new_frame as new_state_frame, after, Sticks, return_value as returned_frames}
+use Rattle.interpreter.specs.reference_machine.Effects.{Effect as StateEffect, Raises as StateRaises, StepContext, Goes, when_some as given_there, new_frame as new_state_frame, after, Sticks, return_value as returned_frames}
 use Rattle.interpreter.specs.reference_machine.BuiltIn.{Action, action_of, act}
 use Rattle.interpreter.specs.reference_machine.Steps.{is_too_deep, frame_for, push_and_advance, push_and_advance_value, execute}
 use Rattle.interpreter.proofs.reference_machine.TypedStates.RunningFrames.{IsTypedEffect}
 use Rattle.interpreter.specs.loaded_program.MethodNumbers.{number_of}
 use Rattle.interpreter.specs.instructions.Frames.{when_some, Transition}
-use Rattle.interpreter.specs.instructions.ObjectTransitions.{beside}
-use Rattle.interpreter.specs.instructions.Calls.{call_transition, is_full, following, enter_callee, gives, return_by}
-use Rattle.interpreter.specs.Calls.{CallTransition, act_transition, called_as, beside_console}
+use Rattle.interpreter.specs.instructions.ObjectTransitions.{with_objects}
+use Rattle.interpreter.specs.instructions.Calls.{call_transition, is_full, at_next_pc, enter_callee, return_to_caller, return_by}
+use Rattle.interpreter.specs.Calls.{CallTransition, act_transition, called_method, with_console}
 use Rattle.interpreter.specs.Instructions.{of_calls, answer_of, operation_transition, of_frames}
 use Rattle.simulation.proofs.Instructions.Calls.Statements.{MethodsRunAlike}
 use Rattle.simulation.proofs.Instructions.Correspondence.{DoesAlike, IsSetting, GoesAlike}
@@ -32,7 +32,7 @@ use Rattle.interpreter.specs.reference_machine.TypedStates.{IsTypedFrame, AreWai
 use Rattle.interpreter.specs.resolved_code.declared.operations.Operation.{Operation}
 use Rattle.interpreter.specs.object_memory.declared.values.Value.{Value}
 use Rattle.interpreter.specs.object_memory.Objects.{Objects}
-use Rattle.interpreter.specs.loaded_program.Prepared.{local_kinds}
+use Rattle.interpreter.specs.loaded_program.LocalKinds.{local_kinds}
 use Rattle.interpreter.specs.threads_monitors.Frames.{Frames, with_pc, with_call, Frame, size, with_running, return_frames, returned_to}
 use Rattle.interpreter.specs.threads_monitors.declared.effects.Effect.TheVariants.{Continues, Raises, Returns}
 use Rattle.interpreter.specs.declared.outcomes.InstructionOutcome.TheVariants.{OwnEffect}
@@ -71,7 +71,7 @@ not_full_test a b c d same depth e = (grind (arith, nat_tests, same, depth, e), 
 few_test : (a l r x : ℕ) → a ≤ MOST_ARGUMENTS → l ≡ x → x ≤ MOST_LOCALS → r ≡ frame_room → nat_le (a + l) r ≡ true
 few_test a l r x one same two room = grind (arith, nat_tests, one, same, two, room)
 
-module _ (here : Setting) (model : MemoryModel here.tree) (name : Names) (m : Frames) (o : Objects) (statics : List Value) (printed : List ℕ) (s : State) (f : StateFrame) (below : List StateFrame) (i : Instruction) (operation : Operation)
+module _ (here : StepContext) (model : MemoryModel here.tree) (name : Names) (m : Frames) (o : Objects) (statics : List Value) (printed : List ℕ) (s : State) (f : StateFrame) (below : List StateFrame) (i : Instruction) (operation : Operation)
     (at : IsSetting here model name m o statics printed s f below i operation) where
   -- both machines have the same number below
   frames_below : length m.below ≡ length below
@@ -104,16 +104,16 @@ module _ (here : Setting) (model : MemoryModel here.tree) (name : Names) (m : Fr
       abbrev deeper : (nat_lt (length m.below + 1) m.depth ≡ true) × (suc (suc (length m.below)) ≤ here.limits.depth)
       deeper = not_full_test (length m.below) (length below) m.depth here.limits.depth frames_below at.frames.depth shallow
 
-      entered_is : enter_callee (called_as found has_id.number) None (with_pc m (m.running.pc + 1)) ≡ Some (entered_frames, Continues)
+      entered_is : enter_callee (called_method found has_id.number) None (with_pc m (m.running.pc + 1)) ≡ Some (entered_frames, Continues)
       entered_is =
           ap (λ b. if b && nat_le count (length m.running.stack) && nat_le (count + length (local_kinds found.1)) m.room then Some (entered_frames, Continues) else None) deeper.0 ∙
           ap (λ b. if b && nat_le (count + length (local_kinds found.1)) m.room then Some (entered_frames, Continues) else None) operands_there ∙
           ap (λ b. if b then Some (entered_frames, Continues) else None) small_enough
 
-      called_is : call_transition (called_as found has_id.number) m ≡ Some (entered_frames, Continues)
+      called_is : call_transition (called_method found has_id.number) m ≡ Some (entered_frames, Continues)
       called_is =
-          ap (λ b. if b then Some (m, Raises StackOverflow) else following m (enter_callee (called_as found has_id.number) None)) (full_alike ∙ shallow) ∙
-          ap (λ b. if b then enter_callee (called_as found has_id.number) None (with_pc m (m.running.pc + 1)) else None) (index_is_small here model name m o statics printed s f below i operation at) ∙
+          ap (λ b. if b then Some (m, Raises StackOverflow) else at_next_pc m (enter_callee (called_method found has_id.number) None)) (full_alike ∙ shallow) ∙
+          ap (λ b. if b then enter_callee (called_method found has_id.number) None (with_pc m (m.running.pc + 1)) else None) (index_is_small here model name m o statics printed s f below i operation at) ∙
           entered_is
 
       frames_entered : AreFrames here.tree here.limits name entered_frames (new_state_frame found.0 found.1 code (reverse (take count f.stack)) None ∷ after f (drop count f.stack) ∷ below)
@@ -163,13 +163,13 @@ module _ (here : Setting) (model : MemoryModel here.tree) (name : Names) (m : Fr
     -- ---- a method with code
 
     abbrev Alike : StateEffect → Type 0
-    Alike e = DoesAlike here model name m o statics printed s f below (of_calls o statics printed (when_some (number_of here.tree found) (λ n. beside_console printed (beside o (call_transition (called_as found n) m))))) e
+    Alike e = DoesAlike here model name m o statics printed s f below (of_calls o statics printed (when_some (number_of here.tree found) (λ n. with_console printed (with_objects o (call_transition (called_method found n) m))))) e
 
     abbrev framed : StateEffect
     framed = frame_for here s f below found.0 found.1 (reverse (take count f.stack)) None s (drop count f.stack)
 
-    transition_is : of_calls o statics printed (when_some (number_of here.tree found) (λ n. beside_console printed (beside o (call_transition (called_as found n) m)))) ≡ of_calls o statics printed (beside_console printed (beside o (call_transition (called_as found has_id.number) m)))
-    transition_is = ap (λ x. of_calls o statics printed (when_some x (λ n. beside_console printed (beside o (call_transition (called_as found n) m))))) has_id.is
+    transition_is : of_calls o statics printed (when_some (number_of here.tree found) (λ n. with_console printed (with_objects o (call_transition (called_method found n) m)))) ≡ of_calls o statics printed (with_console printed (with_objects o (call_transition (called_method found has_id.number) m)))
+    transition_is = ap (λ x. of_calls o statics printed (when_some x (λ n. with_console printed (with_objects o (call_transition (called_method found n) m))))) has_id.is
 
     pub enters_alike : nat_le count (length f.stack) ≡ true → IsTypedEffect here.tree (if is_too_deep here s f below then StateRaises StackOverflow else framed) → Alike (if is_too_deep here s f below then StateRaises StackOverflow else framed)
     enters_alike enough typed = by_depth (is_too_deep here s f below) refl typed
@@ -181,7 +181,7 @@ module _ (here : Setting) (model : MemoryModel here.tree) (name : Names) (m : Fr
         by_code shallow (Some code) coded t =
             record {
               answer = answer_of (entered_frames enough shallow code coded t.1.0) o statics printed (OwnEffect Continues);
-              is = transition_is ∙ ap (λ x. of_calls o statics printed (beside_console printed (beside o x))) (called_is enough shallow code coded t.1.0);
+              is = transition_is ∙ ap (λ x. of_calls o statics printed (with_console printed (with_objects o x))) (called_is enough shallow code coded t.1.0);
               refuses = λ _ h. never h;
               alike = λ r. goes_into enough shallow code coded t.1.0;
             }
@@ -190,7 +190,7 @@ module _ (here : Setting) (model : MemoryModel here.tree) (name : Names) (m : Fr
         by_depth true deep t =
             record {
               answer = answer_of m o statics printed (OwnEffect (Raises StackOverflow));
-              is = transition_is ∙ ap (λ b. of_calls o statics printed (beside_console printed (beside o (if b then Some (m, Raises StackOverflow) else following m (enter_callee (called_as found has_id.number) None))))) (full_alike ∙ deep);
+              is = transition_is ∙ ap (λ b. of_calls o statics printed (with_console printed (with_objects o (if b then Some (m, Raises StackOverflow) else at_next_pc m (enter_callee (called_method found has_id.number) None))))) (full_alike ∙ deep);
               refuses = λ _ h. never h;
               alike = λ r. (refl, (refl, refl, refl));
             }
@@ -199,7 +199,7 @@ module _ (here : Setting) (model : MemoryModel here.tree) (name : Names) (m : Fr
 -- ---- A method that is found runs alike on both machines: an action of its own, or a frame.
 
 pub methods_run_alike : MethodsRunAlike
-methods_run_alike here model name m o statics printed s f below i operation at found class index placed enough typed = by_action (action_of found.0 found.1) typed
+methods_run_alike here model name m o statics printed s f below i operation at found class index index_is enough typed = by_action (action_of found.0 found.1) typed
   where
     arguments : List StateValue
     arguments = reverse (take (length (argument_types found.1 found.0)) f.stack)
@@ -211,11 +211,11 @@ methods_run_alike here model name m o statics printed s f below i operation at f
     framed = if is_too_deep here s f below then StateRaises StackOverflow else frame_for here s f below found.0 found.1 (reverse (take (length (argument_types found.1 found.0)) f.stack)) None s (drop (length (argument_types found.1 found.0)) f.stack)
 
     called : CallTransition
-    called = when_some (number_of here.tree found) (λ n. beside_console printed (beside o (call_transition (called_as found n) m)))
+    called = when_some (number_of here.tree found) (λ n. with_console printed (with_objects o (call_transition (called_method found n) m)))
 
     by_action : (a : Option Action) → IsTypedEffect here.tree (option_map_or (λ x. act here s f below x arguments rest) a framed) →
         DoesAlike here model name m o statics printed s f below (of_calls o statics printed (option_map_or (λ x. act_transition here.tree (mutator_in here model) x m o printed) a called)) (option_map_or (λ x. act here s f below x arguments rest) a framed)
-    by_action None t = enters_alike here model name m o statics printed s f below i operation at found (method_id_is here.tree at.running.accepted.legal class index found placed) enough t
+    by_action None t = enters_alike here model name m o statics printed s f below i operation at found (method_id_is here.tree at.running.accepted.legal class index found index_is) enough t
     by_action (Some a) t = acts_alike here model name m o statics printed s f below i operation at a (length (argument_types found.1 found.0)) enough t
 
 -- ---- A return does the same on both machines.
@@ -226,16 +226,16 @@ some_below : (gs : List Frame) (n : ℕ) → n ≡ suc (length gs) → (n == 0) 
 some_below gs n is = grind (arith, nat_tests, is)
 
 -- without a frame below the thread is done
-gives_done : (v : Option Value) (k : Frames) → k.below ≡ [] → gives v k ≡ Some (k, Returns)
+gives_done : (v : Option Value) (k : Frames) → k.below ≡ [] → return_to_caller v k ≡ Some (k, Returns)
 gives_done v k is = if_true (length k.below == 0) (Some (k, Returns)) _ (ap (λ (l : List Frame). length l == 0) is)
 
 -- else that continues, with the value, where there is one
-gives_none : (k : Frames) (g : Frame) (gs : List Frame) → k.below ≡ g ∷ gs → gives None k ≡ Some (record k { running = g; below = gs }, Continues)
+gives_none : (k : Frames) (g : Frame) (gs : List Frame) → k.below ≡ g ∷ gs → return_to_caller None k ≡ Some (record k { running = g; below = gs }, Continues)
 gives_none k g gs is =
     if_false (length k.below == 0) (Some (k, Returns)) (Some (return_frames k, Continues)) (some_below gs (length k.below) (ap (λ (l : List Frame). length l) is)) ∙
     ap (λ l. Some (returned_to k l, Continues)) is
 
-gives_some : (v : Value) (k : Frames) (g : Frame) (gs : List Frame) → k.below ≡ g ∷ gs → nat_lt (size g) k.room ≡ true → gives (Some v) k ≡ Some (record k { running = record g { stack = v ∷ g.stack }; below = gs }, Continues)
+gives_some : (v : Value) (k : Frames) (g : Frame) (gs : List Frame) → k.below ≡ g ∷ gs → nat_lt (size g) k.room ≡ true → return_to_caller (Some v) k ≡ Some (record k { running = record g { stack = v ∷ g.stack }; below = gs }, Continues)
 gives_some v k g gs is room =
     let pushed : Frames → Transition = λ n. if nat_lt (size n.running) n.room then Some (record n { running = record n.running { stack = v ∷ n.running.stack } }, Continues) else None in
     if_false (length k.below == 0) (Some (k, Returns)) (pushed (return_frames k)) (some_below gs (length k.below) (ap (λ (l : List Frame). length l) is)) ∙
@@ -247,7 +247,7 @@ IsGiven name None None = Unit {0}
 IsGiven name (Some v) (Some u) = IsValue name v u
 IsGiven name _ _ = ⊥
 
-module _ (here : Setting) (model : MemoryModel here.tree) (name : Names) (m : Frames) (o : Objects) (statics : List Value) (printed : List ℕ) (s : State) (f : StateFrame) (below : List StateFrame)
+module _ (here : StepContext) (model : MemoryModel here.tree) (name : Names) (m : Frames) (o : Objects) (statics : List Value) (printed : List ℕ) (s : State) (f : StateFrame) (below : List StateFrame)
     (at : IsSetting here model name m o statics printed s f below Named.Return Resolved.Return) where
   abbrev ReturnsAlike : Transition → StateEffect → Type 0
   ReturnsAlike transition e = DoesAlike here model name m o statics printed s f below (of_frames o statics printed transition) e
@@ -276,7 +276,7 @@ module _ (here : Setting) (model : MemoryModel here.tree) (name : Names) (m : Fr
       }
 
   -- what the running frame gives, whatever is left in it
-  leaves_alike : (r : Frame) (v : Option Value) (u : Option StateValue) → IsGiven name v u → ReturnsAlike (gives v (with_running m r)) (push_and_advance here s f below u)
+  leaves_alike : (r : Frame) (v : Option Value) (u : Option StateValue) → IsGiven name v u → ReturnsAlike (return_to_caller v (with_running m r)) (push_and_advance here s f below u)
   leaves_alike r v u when_some = by_below m.below below refl at.frames.frames.1 at.running.waiting v u when_some
     where
       has_room : (g : Frame) (g' : StateFrame) (gs' : List StateFrame) → IsFrame here.tree name g g' → AreWaiting here.tree s (type_gives s f) (g' ∷ gs') → nat_lt (size g) m.room ≡ true
@@ -286,7 +286,7 @@ module _ (here : Setting) (model : MemoryModel here.tree) (name : Names) (m : Fr
           grind (arith, nat_tests, left, room)
 
       by_below : (bs : List Frame) (bs' : List StateFrame) → m.below ≡ bs → Agree (IsFrame here.tree name) bs bs' → AreWaiting here.tree s (type_gives s f) bs' →
-          (v : Option Value) (u : Option StateValue) → IsGiven name v u → ReturnsAlike (gives v (with_running m r)) (Goes (returned_frames u bs') s)
+          (v : Option Value) (u : Option StateValue) → IsGiven name v u → ReturnsAlike (return_to_caller v (with_running m r)) (Goes (returned_frames u bs') s)
       by_below [] [] is h waiting v u k = record {
         answer = answer_of (with_running m r) o statics printed (OwnEffect Returns);
         is = ap (of_frames o statics printed) (gives_done v (with_running m r) is);
@@ -318,11 +318,11 @@ module _ (here : Setting) (model : MemoryModel here.tree) (name : Names) (m : Fr
   by_type : (t : Option DeclaredType) → IsTypedEffect here.tree (ends_by t) → ReturnsAlike (return_by None (is_some t) m) (ends_by t)
   by_type None typed = leaves_alike m.running None None tt
   by_type (Some t) typed =
-      one_operand here model name m o statics printed s f below Named.Return Resolved.Return at (of_frames o statics printed) (λ v n. gives (Some v) n) (λ u rest. if is_of_kind t u then push_and_advance here s f below (Some u) else Sticks) typed
+      one_operand here model name m o statics printed s f below Named.Return Resolved.Return at (of_frames o statics printed) (λ v n. return_to_caller (Some v) n) (λ u rest. if is_of_kind t u then push_and_advance here s f below (Some u) else Sticks) typed
       (λ v rest u rest' top top' h k shorter typed'. by_kind v rest u h (is_of_kind t u) typed')
     where
       by_kind : (v : Value) (rest : List Value) (u : StateValue) → IsValue name v u → (b : Bool) → IsTypedEffect here.tree (if b then push_and_advance here s f below (Some u) else Sticks) →
-          ReturnsAlike (gives (Some v) (with_running m (record m.running { stack = rest }))) (if b then push_and_advance here s f below (Some u) else Sticks)
+          ReturnsAlike (return_to_caller (Some v) (with_running m (record m.running { stack = rest }))) (if b then push_and_advance here s f below (Some u) else Sticks)
       by_kind v rest u h true t' = leaves_alike (record m.running { stack = rest }) (Some v) (Some u) h
       by_kind v rest u h false t' = elim t' [ ]
 

@@ -5,7 +5,7 @@ use Rattle.interpreter.specs.cil_model.declared.trees.Method.{Method}
 use Rattle.interpreter.specs.cil_model.declared.types.ClassName.{ClassName}
 use Rattle.interpreter.specs.cil_model.Bodies.{argument_types}
 use Rattle.interpreter.specs.reference_machine.States.{Frame as StateFrame, State}
-use Rattle.interpreter.specs.reference_machine.Effects.{Setting}
+use Rattle.interpreter.specs.reference_machine.Effects.{StepContext}
 use Rattle.interpreter.specs.reference_machine.Steps.{run_method}
 use Rattle.reference_machine.proofs.TypedStates.RunningFrames.{IsTypedEffect}
 use Rattle.interpreter.specs.name_tables.Numbers.{method_at}
@@ -22,7 +22,7 @@ use Rattle.simulation.proofs.Instructions.Correspondence.{IsSetting, DoesAlike}
 -- a method that is found runs alike on operands that are there, one for each of its arguments
 abbrev pub MethodsRunAlike : Type 1
 MethodsRunAlike =
-    (here : Setting) (model : MemoryModel here.tree) (name : Names) (m : Frames) (o : Objects) (statics : List Value) (printed : List ℕ) (s : State) (f : StateFrame) (below : List StateFrame) (i : Instruction) (operation : Operation) →
+    (here : StepContext) (model : MemoryModel here.tree) (name : Names) (m : Frames) (o : Objects) (statics : List Value) (printed : List ℕ) (s : State) (f : StateFrame) (below : List StateFrame) (i : Instruction) (operation : Operation) →
     IsSetting here model name m o statics printed s f below i operation →
     (found : ClassName × Method) (class index : ℕ) → method_at here.tree (class, index) ≡ Some found →
     nat_le (length (argument_types found.1 found.0)) (length f.stack) ≡ true →

@@ -1,11 +1,11 @@
 use Rattle.std.proofs.Common.{◌≤◌, ◌+◌, ap, ◌∙◌, length, sym, arith}
-use Rattle.space_block.specs.Written.{row_of}
+use Rattle.space_block.specs.WrittenWords.{row_of}
 use Rattle.space_block.proofs.WordSequences.{extended, extended_row, length-cleared, length-row}
 use Rattle.space_block.proofs.Block.extend.Goals as goal
 
 pub invariant_of-self : goal.invariant_of-self
 invariant_of-self c =
-    let inv = c.self.invariant in let made = c.clear.ensures in let old = c.self.inside.words.places in
+    let inv = c.self.invariant in let made = c.clear.ensures in let old = c.self.inside.words.slots in
     let used = c.self.inside.used in let end = used + c.args.count in
     let given = rw (← c.self.view_is) at c.requires in
     let inside : used ≤ length old = omega (arith, inv.2, inv.3) in
@@ -21,7 +21,7 @@ invariant_of-self c =
 
 pub returns : goal.returns
 returns c =
-    let inv = c.self.invariant in let made = c.clear.ensures in let old = c.self.inside.words.places in
+    let inv = c.self.invariant in let made = c.clear.ensures in let old = c.self.inside.words.slots in
     let used = c.self.inside.used in let end = used + c.args.count in
     let given = rw (← c.self.view_is) at c.requires in
     let inside : used ≤ length old = omega (arith, inv.2, inv.3) in

@@ -13,4 +13,4 @@ invariant_of-result c =
 pub returns : goal.returns
 returns c =
     let taken = c.in_ok-front.ensures in
-    blank_row c.in_ok-front.held.places ∙ ap (λ ds. blank (length ds)) taken.1 ∙ ap blank (length-replicate {A = Option ℕ} c.args.words None)
+    blank_row c.in_ok-front.held.slots ∙ ap (λ ds. blank (length ds)) taken.1 ∙ ap blank (length-replicate {A = Option ℕ} c.args.words None)

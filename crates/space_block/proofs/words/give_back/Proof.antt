@@ -1,4 +1,4 @@
--- The places are room again, and go back to the allocator with the right to free them.
+-- The slots are room again, and go back to the allocator with the right to free them.
 use Rattle.std.proofs.Common.{◌≡◌, ℕ, ◌*◌, ◌^◌, ◌<◌, List, [], ◌∷◌, length, T, sym, refl, ap, subst, ◌∙◌, arith, lit<, w64}
 use Rattle.std.proofs.RcSteps.{word-Good}
 use Rattle.std.proofs.alloc.Calls.{Al, Gives, at_gives, Gives-goes, Gives-Gives, Goes-blank}
@@ -36,7 +36,7 @@ use Rattle.space_block.specs.contracts.words.Front as front
 use Rattle.space_block.specs.contracts.words.Lease as lease
 use Rattle.space_block.specs.contracts.words.give_back.{ended, clauses}
 use Rattle.space_block.specs.contracts.words.give_back.Key.{name as #self}
-use Rattle.space_block.proofs.Places.{to_room}
+use Rattle.space_block.proofs.Slots.{to_room}
 use Rattle.space_block.proofs.Values.{front_val, front_decoded, bare_val, bare_decoded, lease_val, lease_decoded}
 use Rattle.space_block.proofs.words.give_back.Statement.{statement}
 use Rattle.space_block.proofs.words.give_back.Code as code
@@ -57,18 +57,18 @@ give_back_spec 𝓤 𝓛 𝓜 𝓡 wired A L g d dd met md =
     let Post : Val → SProp 𝓤 = (walk_of 𝓛 E hs c).post y in
     let Y : Al = record { row = A; laws = L; g = g; d = d; drops = dd } in
     let words_type : Ty = ty_array (ty_int w64) n in let τ : Ty = bare words_type in
-    let Asked : Type 0 = (w.at ≡ start) × (length w.places ≡ n) × (k.at ≡ start) × (k.count ≡ n) × (k.alloc ≡ h) in
+    let Asked : Type 0 = (w.at ≡ start) × (length w.slots ≡ n) × (k.at ≡ start) × (k.count ≡ n) × (k.alloc ≡ h) in
     subst (λ (vss : List Val × (List Val × (List Val × (List Val × (List Val × Unit {0}))))). ent 𝓤 ((walk_of 𝓛 E hs c).pre (At vss)) (WpFn 𝓤 H 𝓣.C 𝓣.Λ fn ((walk_of 𝓛 E hs c).args (At vss)) ((walk_of 𝓛 E hs c).post (At vss))))
     (λ j. (sym are.0.0 j, (sym (front_decoded start vss₀.1.0 are.1.0) j, (sym are.1.1.0.0 j, (sym (bare_decoded vss₀.1.1.1.0 are.1.1.1.0.0) j, (sym (lease_decoded vss₀.1.1.1.1.0 are.1.1.1.1.0.0) j, tt)))))) (
     qed 𝓛 (((‵ (flft κ q) ⊛ ‵ (flft κs.1.0 qs.1.0) ⊛ ‵ ftrue) ⊛ ‵ (owns (types_at E.signature.params κs) a y.0.4)) ∷ (raw (fact 𝓤 (κs.1.0 ⊑ A.lives)) ⊛ raw (fact 𝓤 Asked)) ∷ []) ∵
     move ! (1 ∷ []) $ split ! $ heard ! (κs.1.0 ⊑ A.lives) (λ le. heard ! Asked (λ asked. split ! $ split ! $ move ! (2 ∷ []) $
     fsplit ! $ fsplit ! $ drop ! $ move ! (1 ∷ []) $ fsplit ! $ drop ! $ fsplit ! $ drop ! $ fsplit ! $ fsplit ! $ drop ! $ move ! (1 ∷ []) $ fsplit ! $ fsplit ! $ drop ! $
     -- [the right to free; nothing; the words; the allocator's handle; the tokens, in two entries]
-    keep ! (2 ∷ 0 ∷ 3 ∷ 4 ∷ 5 ∷ []) $ rewrite ! 0 (λ (p : Ptr). ‵ (words_owned p w.places)) asked.0 refl $
-    in_a_block ! start (λ p. words_owned p w.places) (id⊢ 𝓤 (never 𝓤)) (λ b o e. fsplit ! $ flt_l ! (λ fit.
+    keep ! (2 ∷ 0 ∷ 3 ∷ 4 ∷ 5 ∷ []) $ rewrite ! 0 (λ (p : Ptr). ‵ (words_owned p w.slots)) asked.0 refl $
+    in_a_block ! start (λ p. words_owned p w.slots) (id⊢ 𝓤 (never 𝓤)) (λ b o e. fsplit ! $ flt_l ! (λ fit.
     let small : n * 8 < 2 ^ 63 = subst (λ m. m * 8 < 2 ^ 63) asked.1 fit in let bytes : n * 8 < 2 ^ 64 = omega (arith, small) in
     let z = at_gives Y 𝓛 𝓜.mem 𝓡.returns κ q handle h b o (n * 8) 8 τ in
-    use1 𝓛 (‵ (froom (ty_array (ty_int w64) (length w.places)) b o)) (to_room 𝓛 b w.places o) $ rewrite ! 0 (λ (m : ℕ). ‵ (froom (ty_array (ty_int w64) m) b o)) asked.1 refl $
+    use1 𝓛 (‵ (froom (ty_array (ty_int w64) (length w.slots)) b o)) (to_room 𝓛 b w.slots o) $ rewrite ! 0 (λ (m : ℕ). ‵ (froom (ty_array (ty_int w64) m) b o)) asked.1 refl $
     rewrite ! 1 (λ (u : A.Denot × Ptr × ℕ). ‵ (lease_owned (g.dealloc_token u.0) u.1 u.2)) (λ j. (asked.4 j, (asked.2 ∙ e) j, asked.3 j)) refl $
     enter ! 𝓣.C 𝓣.Λ fn (vptr handle.0 handle.1 ∷ front_val start ∷ vint w64 n ∷ bare_val ∷ lease_val ∷ []) Post $
     alloc_all ! (λ l. pass_all ! refl ((tt, tt), (word-Good [] start, ((tt, record { fits = are.1.1.0.1 }), ((tt, tt), ((tt, (tt, tt)), tt))))) $ let En : Env 𝓤 H = env fn.locals l in

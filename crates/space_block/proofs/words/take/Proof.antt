@@ -1,4 +1,4 @@
--- The allocator is asked for the words' bytes, and what it gives is cut into places.
+-- The allocator is asked for the words' bytes, and what it gives is cut into slots.
 use Rattle.std.proofs.Common.{◌≡◌, ◌*◌, ◌^◌, ◌<◌, true, false, List, [], ◌∷◌, length, replicate, sym, refl, ap, subst, ◌∙◌, arith, lit<, w64}
 use Rattle.std.specs.Prelude.{None, Ok, Err}
 use Rattle.std.proofs.lemmas.List.{length-replicate}
@@ -37,13 +37,13 @@ use denote.Struct.Tuple.{Tuple}
 use denote.Triple.Call.{calls_at}
 use denote.Triple.Table.{framed}
 use denote.Triple.Walked.{Stays, stay_dropped, walk_of, Goes-dropped}
-use Rattle.space_block.specs.Memory.{FitsBlock, places}
+use Rattle.space_block.specs.Memory.{FitsBlock, slots}
 use Rattle.space_block.specs.contracts.words.Words as words
 use Rattle.space_block.specs.contracts.words.Front as front
 use Rattle.space_block.specs.contracts.words.Lease as lease
 use Rattle.space_block.specs.contracts.words.take.{ended, clauses}
 use Rattle.space_block.specs.contracts.words.take.Key.{name as #self}
-use Rattle.space_block.proofs.Places.{of_room}
+use Rattle.space_block.proofs.Slots.{of_room}
 use Rattle.space_block.proofs.Walks.{then_runs}
 use Rattle.space_block.proofs.Values.{front_val, front_own, front_made, bare_val, bare_own, bare_made, lease_val, lease_own, lease_made, three_val, three_made}
 use Rattle.space_block.proofs.words.take.Statement.{statement}
@@ -80,9 +80,9 @@ take_spec 𝓤 𝓛 𝓜 𝓡 wired A L g d dd met md =
     use1 𝓛 (later (raw (Answered Y 𝓛 𝓜.mem 𝓡.returns h τ v) ⊛ ‵ (flft κ q))) (Takes-gives Y 𝓛 𝓜.mem 𝓡.returns κ q handle h (n * 8) 8 τ v) $ await ! tt $ split ! $
     answers Y ! 𝓜.mem 𝓡.returns h τ v
     (λ b o e.
-    let p : Ptr = block_ptr b o in let x : (front.the_row).Denot = record { start = p } in let w : (words.the_row).Denot = record { at = p; places = replicate n None } in
+    let p : Ptr = block_ptr b o in let x : (front.the_row).Denot = record { start = p } in let w : (words.the_row).Denot = record { at = p; slots = replicate n None } in
     let k : (lease.the_row Z g).Denot = record { mark = record {}; at = p; count = n; alloc = h } in let made : Val = three_val (front_val p) bare_val lease_val in
-    let Decoded : Type 0 = (w.at ≡ x.start) × (w.places ≡ replicate n None) × (k.at ≡ x.start) × (k.count ≡ n) × (k.alloc ≡ h) in
+    let Decoded : Type 0 = (w.at ≡ x.start) × (w.slots ≡ replicate n None) × (k.at ≡ x.start) × (k.count ≡ n) × (k.alloc ≡ h) in
     lands_as ! e refl (Answer-typed true b o) $ first ! $ switches_on ! (get_tag ! (vrt ! refl (fld ! refl (stop !))) (whole !)) $ exec ! 𝓣.C 𝓣.Λ En (arm_body 0 (head (after 2 fn.body))) Then $
     sets ! (of_opd ! (get_in ! (vrt ! refl (fld ! refl (stop !))) (in_variant ! 0 0 refl refl (whole !)))) refl (tt, tt) $ sets ! (of_opd ! (get ! refl)) refl (tt, tt) $
     sets ! (agg ! (and_then ! (get ! refl) (no_more !))) refl (word-Good [] p) $ sets ! (agg ! (no_more !)) refl (tt, tt) $
@@ -92,8 +92,8 @@ take_spec 𝓤 𝓛 𝓜 𝓡 wired A L g d dd met md =
     exec ! 𝓣.C 𝓣.Λ En (after 3 fn.body) (at_ret En Post) $ sets ! (of_opd ! (get ! refl)) refl (tt, (record { fits = lit< tt }, (((tt, tt), (tt, ((tt, tt), tt))), tt))) $
     -- [room for the words; the right to give them back; the tokens, in two entries]
     move ! (1 ∷ []) $ use0 𝓛 (‵ (lease_own (lease_val ∷ []))) (lease_made 𝓛) $ fjoin ! $ move ! (1 ∷ []) $
-    use1 𝓛 (‵ (places b o w.places)) (of_room 𝓛 b n o) $
-    flt_i ! (length w.places * 8) (2 ^ 63) (subst (λ k. k * 8 < 2 ^ 63) (sym (length-replicate n None)) small) $ fjoin ! $
+    use1 𝓛 (‵ (slots b o w.slots)) (of_room 𝓛 b n o) $
+    flt_i ! (length w.slots * 8) (2 ^ 63) (subst (λ k. k * 8 < 2 ^ 63) (sym (length-replicate n None)) small) $ fjoin ! $
     use0 𝓛 (‵ (bare_own (bare_val ∷ []))) (bare_made 𝓛) $ fjoin ! $
     use0 𝓛 (‵ (front_own p (front_val p ∷ []))) (front_made 𝓛 p) $
     use3 𝓛 (‵ (Three.own_val (x, w, k) (made ∷ []))) (three_made 𝓛 front.the_row words.the_row (lease.the_row Z g) x w k (front_val p) bare_val lease_val) $

@@ -1,5 +1,5 @@
 use Rattle.std.proofs.Common.{arith, ◌∙◌}
-use Rattle.threads_monitors.proofs.Rows.{one_more}
+use Rattle.threads_monitors.proofs.ValueStacks.{one_more}
 use Rattle.threads_monitors.proofs.frames.push_values.Goals as goal
 
 pub loop-value-preserved : goal.loop-value-preserved

@@ -1,6 +1,6 @@
 use Rattle.std.proofs.Common.{arith, ◌∙◌}
 use Rattle.threads_monitors.specs.Frames.{zero_value}
-use Rattle.threads_monitors.proofs.Rows.{one_made_more}
+use Rattle.threads_monitors.proofs.ValueStacks.{one_made_more}
 use Rattle.threads_monitors.proofs.frames.push_zeros.Goals as goal
 
 pub loop-kind-preserved : goal.loop-kind-preserved

@@ -1,7 +1,7 @@
 use Rattle.std.proofs.Common.{sym, subst}
 use Rattle.source_positions.specs.cil_model.Legality.{IsLegal}
 use Rattle.source_positions.specs.cil_model.declared.trees.Tree.{Tree}
-use Rattle.resolved_code.specs.Resolved.{AreResolved}
+use Rattle.resolved_code.specs.ResolvedPrograms.{AreResolved}
 use Rattle.typing_explanations.proofs.heights.height_of_body.Goals as goal
 
 pub new-requires : goal.new-requires

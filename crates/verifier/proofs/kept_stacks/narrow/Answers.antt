@@ -1,6 +1,6 @@
 use Rattle.std.proofs.Common.{◌≡◌, ◌<◌, ◌∷◌, [], ◌++◌, map, take, length, sym, ap, ◌∙◌}
 use Rattle.std.proofs.lemmas.List.{map-append, take_all, take_more}
-use Rattle.verifier.specs.Kept.{entry_of}
+use Rattle.verifier.specs.KeptStacks.{entry_of}
 use Rattle.verifier.proofs.kept_stacks.narrow.Goals as goal
 
 pub loop-index-preserved : goal.loop-index-preserved

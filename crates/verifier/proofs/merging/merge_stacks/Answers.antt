@@ -2,7 +2,7 @@ use Rattle.std.proofs.Common.{◌<◌, ◌≤◌, List, length, take, sym, subst
 use Rattle.std.proofs.lemmas.List.{take_all}
 use Rattle.std.proofs.lemmas.Result.{err_from_is_err_and}
 use Rattle.cil_model.specs.declared.trees.Tree.{Tree}
-use Rattle.flow_rules.specs.Named.{stack_types}
+use Rattle.flow_rules.specs.StackTypes.{stack_types}
 use Rattle.flow_rules.specs.declared.entries.StackEntry.{StackEntry}
 use Rattle.verifier.specs.Rises.{stack_rises}
 use Rattle.verifier.proofs.StackLaws.{apart_heights, merge_fails, merged_more, kept_more, merged_whole}

@@ -1,5 +1,5 @@
 use Rattle.std.proofs.Common.{◌≡◌, ◌<◌, take, true, false}
-use Rattle.flow_rules.specs.Named.{stack_types}
+use Rattle.flow_rules.specs.StackTypes.{stack_types}
 use Rattle.verifier.specs.Rises.{stack_rises}
 use Rattle.verifier.proofs.StackLaws.{AllMerged}
 use Rattle.verifier.proofs.merging.merge_stacks.Given as goal

@@ -1,4 +1,4 @@
-use Rattle.flow_rules.specs.Named.{type_named}
+use Rattle.flow_rules.specs.StackTypes.{type_named}
 use Rattle.verifier.proofs.RiseLaws.{null_falls}
 use Rattle.verifier.proofs.merging.raise_entry.Goals as goal
 

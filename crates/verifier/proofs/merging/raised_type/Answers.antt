@@ -1,6 +1,6 @@
 use Rattle.std.proofs.Common.{◌<◌, ◌^◌, arith}
 use Rattle.cil_model.specs.declared.trees.Tree.{Tree}
-use Rattle.flow_rules.specs.Named.{type_named}
+use Rattle.flow_rules.specs.StackTypes.{type_named}
 use Rattle.verifier.proofs.RiseLaws.{type_falls}
 use Rattle.verifier.proofs.merging.raised_type.Goals as goal
 

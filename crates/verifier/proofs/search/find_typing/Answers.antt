@@ -1,5 +1,5 @@
 use Rattle.std.proofs.Common.{ap, ◌∙◌}
-use Rattle.flow_rules.specs.Named.{types_named}
+use Rattle.flow_rules.specs.StackTypes.{types_named}
 use Rattle.flow_rules.proofs.MemberLaws.{types_are_named}
 use Rattle.verifier.proofs.search.find_typing.Goals as goal
 

@@ -1,8 +1,8 @@
 use Rattle.std.proofs.Common.{List, ap, refl, subst, sym, ◌∙◌}
 use Rattle.cil_model.specs.declared.trees.Line.{Line}
-use Rattle.flow_rules.specs.Named.{types_named}
+use Rattle.flow_rules.specs.StackTypes.{types_named}
 use Rattle.flow_rules.proofs.MemberLaws.{types_are_named}
-use Rattle.resolved_code.specs.Resolved.{AllAlike, IsOperation}
+use Rattle.resolved_code.specs.ResolvedPrograms.{AllAlike, IsOperation}
 use Rattle.resolved_code.specs.declared.operations.Operation.{Operation}
 use Rattle.verifier.specs.Answers.{with_max_stack}
 use Rattle.verifier.proofs.search.find_typing_within.Goals as goal

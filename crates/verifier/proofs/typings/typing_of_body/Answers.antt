@@ -1,8 +1,8 @@
 use Rattle.std.proofs.Common.{◌≡◌, sym, subst}
 use Rattle.std.specs.Option.{option_map}
 use Rattle.cil_model.specs.declared.trees.Tree.{Tree}
-use Rattle.flow_rules.specs.Named.{type_named, types_named}
-use Rattle.resolved_code.specs.Resolved.{IsBody}
+use Rattle.flow_rules.specs.StackTypes.{type_named, types_named}
+use Rattle.resolved_code.specs.ResolvedPrograms.{IsBody}
 use Rattle.verifier.specs.Answers.{IsTypingAnswer}
 use Rattle.verifier.proofs.MethodLaws.{code_verdict}
 use Rattle.verifier.proofs.typings.typing_of_body.Goals as goal

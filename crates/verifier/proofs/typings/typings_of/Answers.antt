@@ -3,7 +3,7 @@ use Rattle.cil_model.specs.Bodies.{source_methods}
 use Rattle.cil_model.specs.Legality.{IsLegal}
 use Rattle.cil_model.specs.declared.trees.Tree.{Tree}
 use Rattle.name_tables.specs.declared.ids.MethodId.{MethodId}
-use Rattle.resolved_code.specs.Resolved.{AreResolved}
+use Rattle.resolved_code.specs.ResolvedPrograms.{AreResolved}
 use Rattle.verifier.specs.Members.{methods_at}
 use Rattle.verifier.proofs.typings.typings_of.Goals as goal
 

@@ -2,7 +2,7 @@ use Rattle.std.proofs.Common.{◌≡◌, ◌-◌, ◌+◌, ◌==◌, ℕ, Bool, 
 use Rattle.std.specs.Option.{option_map_or}
 use Rattle.std.proofs.Math.Seq.{drop-length}
 use Rattle.std.proofs.lemmas.List.{drop_more, get_or_default}
-use Rattle.class_layout.specs.Roles.{slot_from, slot_along, implementation_from, implementation_along}
+use Rattle.class_layout.specs.SlotUses.{slot_from, slot_along, implementation_from, implementation_along}
 use Rattle.class_layout.proofs.method_families.MethodFamilies.implementation_along.Goals as goal
 
 pub loop-index-init : goal.loop-index-init
@@ -20,7 +20,7 @@ loop-index-preserved c =
     let opened : drop index chain ≡ class ∷ following = drop_more chain index 0 (omega (arith, c.loop-index-test.true, c.loop-index.auto)) ∙ ap (λ k. class ∷ drop k chain) next in
     let same : c.index-chain-index.result ≡ class = c.index-chain-index.is ∙ get_or_default chain index c.index-chain-index.result 0 (omega (arith, c.loop-index-test.true, c.loop-index.auto)) in
     let again : c.index-chain-index-in-loop-index.result ≡ class = c.index-chain-index-in-loop-index.is ∙ get_or_default chain index c.index-chain-index-in-loop-index.result 0 (omega (arith, c.loop-index-test.true, c.loop-index.auto)) in
-    let slot_is = c.slot_over-slot.ensures ∙ ap (λ n. slot_from all s.identity n c.loop-index.slot) same ∙ ap (slot_from all s.identity class) c.loop-index.invariant.0 in
+    let slot_is = c.slot_from_base-slot.ensures ∙ ap (λ n. slot_from all s.identity n c.loop-index.slot) same ∙ ap (slot_from all s.identity class) c.loop-index.invariant.0 in
     let fills_is = c.is_slot.ensures ∙ ap (λ (slot : Option ℕ). option_map_or (λ n. n == c.args.required) slot false) slot_is in (
       slot_is ∙ ap (slot_along all s.identity) (sym opened),
       c.implementation_over-implementation.ensures ∙ ap (λ n. implementation_from all s.identity n c.is_slot.result c.loop-index.implementation) again ∙ ap (λ (fills : Bool). implementation_from all s.identity class fills c.loop-index.implementation) fills_is ∙

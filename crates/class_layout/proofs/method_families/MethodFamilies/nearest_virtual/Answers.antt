@@ -1,7 +1,7 @@
 use Rattle.std.proofs.Common.{Some, ◌∙◌, sym, ap, arith}
 use Rattle.std.specs.Prelude.{find}
 use Rattle.std.proofs.lemmas.List.{drop_all, get_or_default}
-use Rattle.class_layout.specs.Roles.{is_virtual_at}
+use Rattle.class_layout.specs.SlotUses.{is_virtual_at}
 use Rattle.class_layout.proofs.Indices.{finds_here, finds_after}
 use Rattle.class_layout.proofs.method_families.MethodFamilies.nearest_virtual.Goals as goal
 

@@ -1,6 +1,6 @@
 use Rattle.std.proofs.Common.{◌≡◌, drop}
 use Rattle.std.specs.Prelude.{find}
-use Rattle.class_layout.specs.Roles.{is_virtual_at}
+use Rattle.class_layout.specs.SlotUses.{is_virtual_at}
 use Rattle.class_layout.proofs.method_families.MethodFamilies.nearest_virtual.Given as goal
 
 abbrev pub invariant-loop-class : goal.invariant-loop-class

@@ -2,7 +2,7 @@ use Rattle.std.proofs.Common.{◌≡◌, ℕ, List, Option, None, Some, length, 
 use Rattle.std.proofs.lemmas.Option.{slice_get_past, slice_get_read}
 use Rattle.name_tables.specs.declared.ids.MethodId.{MethodId}
 use Rattle.resolved_code.specs.declared.classes.ResolvedClass.{ResolvedClass}
-use Rattle.class_layout.specs.Roles.{own_index, own_at}
+use Rattle.class_layout.specs.SlotUses.{own_index, own_at}
 use Rattle.class_layout.proofs.method_families.MethodFamilies.own_method.Goals as goal
 
 -- the method of a class, by its own index among the methods

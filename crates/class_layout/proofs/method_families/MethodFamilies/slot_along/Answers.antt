@@ -1,7 +1,7 @@
 use Rattle.std.proofs.Common.{◌≡◌, ◌-◌, ◌+◌, ◌∷◌, drop, get_or, refl, sym, arith, ap, ◌∙◌}
 use Rattle.std.proofs.Math.Seq.{drop-length}
 use Rattle.std.proofs.lemmas.List.{drop_more, get_or_default}
-use Rattle.class_layout.specs.Roles.{slot_from, slot_along}
+use Rattle.class_layout.specs.SlotUses.{slot_from, slot_along}
 use Rattle.class_layout.proofs.method_families.MethodFamilies.slot_along.Goals as goal
 
 pub loop-index-init : goal.loop-index-init
@@ -17,7 +17,7 @@ loop-index-preserved c =
     let next : index + 1 ≡ c.loop-index.index = omega (arith, c.loop-index-test.true) in
     let opened : drop index chain ≡ class ∷ drop c.loop-index.index chain = drop_more chain index 0 (omega (arith, c.loop-index-test.true, c.loop-index.auto)) ∙ ap (λ k. class ∷ drop k chain) next in
     let same : c.index-chain-index.result ≡ class = c.index-chain-index.is ∙ get_or_default chain index c.index-chain-index.result 0 (omega (arith, c.loop-index-test.true, c.loop-index.auto)) in
-    c.slot_over-slot.ensures ∙ ap (λ n. slot_from all s.identity n c.loop-index.slot) same ∙ ap (slot_from all s.identity class) c.loop-index.invariant ∙ ap (slot_along all s.identity) (sym opened)
+    c.slot_from_base-slot.ensures ∙ ap (λ n. slot_from all s.identity n c.loop-index.slot) same ∙ ap (slot_from all s.identity class) c.loop-index.invariant ∙ ap (slot_along all s.identity) (sym opened)
 
 pub returns : goal.returns
 returns c =

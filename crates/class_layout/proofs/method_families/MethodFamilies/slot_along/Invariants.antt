@@ -1,5 +1,5 @@
 use Rattle.std.proofs.Common.{◌≡◌, drop}
-use Rattle.class_layout.specs.Roles.{slot_along}
+use Rattle.class_layout.specs.SlotUses.{slot_along}
 use Rattle.class_layout.proofs.method_families.MethodFamilies.slot_along.Given as goal
 
 abbrev pub invariant-loop-index : goal.invariant-loop-index

@@ -1,6 +1,6 @@
 use Rattle.std.proofs.Common.{sym}
 use Rattle.cil_model.specs.declared.trees.Tree.{Tree}
-use Rattle.flow_rules.specs.Named.{type_named}
+use Rattle.flow_rules.specs.StackTypes.{type_named}
 use Rattle.flow_rules.proofs.AncestorChains.{next, past}
 use Rattle.flow_rules.proofs.type_tree.TypeTree.ancestor.Goals as goal
 

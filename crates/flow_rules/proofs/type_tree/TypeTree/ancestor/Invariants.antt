@@ -1,6 +1,6 @@
 use Rattle.std.proofs.Common.{◌≡◌, true, Some}
 use Rattle.cil_model.specs.TypeTree.{ancestor}
-use Rattle.flow_rules.specs.Named.{type_named, is_known}
+use Rattle.flow_rules.specs.StackTypes.{type_named, is_known}
 use Rattle.flow_rules.proofs.type_tree.TypeTree.ancestor.Given as goal
 
 abbrev pub invariant-loop-step : goal.invariant-loop-step

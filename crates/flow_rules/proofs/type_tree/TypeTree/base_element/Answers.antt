@@ -3,7 +3,7 @@ use Rattle.cil_model.specs.declared.trees.Tree.{Tree}
 use Rattle.cil_model.specs.declared.types.ClassName.{ClassName}
 use Rattle.cil_model.specs.Chains.{base_of}
 use Rattle.resolved_code.specs.ById.{class_name}
-use Rattle.flow_rules.specs.Named.{class_named}
+use Rattle.flow_rules.specs.StackTypes.{class_named}
 use Rattle.flow_rules.proofs.Classes.{base_at, base_missing, base_known, base_named}
 use Rattle.flow_rules.proofs.type_tree.TypeTree.base_element.Goals as goal
 

@@ -1,6 +1,6 @@
 use Rattle.std.proofs.Common.{◌≡◌, Some}
 use Rattle.cil_model.specs.TypeTree.{ancestor}
-use Rattle.flow_rules.specs.Named.{type_named}
+use Rattle.flow_rules.specs.StackTypes.{type_named}
 use Rattle.flow_rules.proofs.type_tree.TypeTree.depth.Given as goal
 
 abbrev pub invariant-loop-step : goal.invariant-loop-step

@@ -3,7 +3,7 @@ use Rattle.cil_model.specs.declared.trees.Tree.{Tree}
 use Rattle.cil_model.specs.declared.types.Element.{Element}
 use Rattle.cil_model.specs.TypeTree.{parent_at}
 use Rattle.cil_model.proofs.BelowLaws.{typed}
-use Rattle.flow_rules.specs.Named.{element_named}
+use Rattle.flow_rules.specs.StackTypes.{element_named}
 use Rattle.flow_rules.proofs.type_tree.TypeTree.element_above.Goals as goal
 
 pub returns-in-Class : goal.returns-in-Class

@@ -1,6 +1,6 @@
 use Rattle.std.proofs.Common.{◌∙◌}
 use Rattle.cil_model.specs.Assignable.{is_assignable}
-use Rattle.flow_rules.specs.Named.{type_named}
+use Rattle.flow_rules.specs.StackTypes.{type_named}
 use Rattle.flow_rules.proofs.KnownTypes.{type_refines, classes_tested, first_known, second_known}
 use Rattle.flow_rules.proofs.type_tree.TypeTree.is_assignable.Goals as goal
 

@@ -2,7 +2,7 @@ use Rattle.std.proofs.Common.{arith, ◌≡◌, ◌-◌, ◌<◌, ℕ, true, fal
 use Rattle.std.specs.Option.{is_some as has_some}
 use Rattle.cil_model.specs.Assignable.{is_class_assignable}
 use Rattle.cil_model.specs.Chains.{longest_chain}
-use Rattle.flow_rules.specs.Named.{class_named}
+use Rattle.flow_rules.specs.StackTypes.{class_named}
 use Rattle.flow_rules.proofs.ChainNumbers.{is_along, found_here, found_nowhere, found_later, based_known}
 use Rattle.flow_rules.proofs.type_tree.TypeTree.is_class_assignable.Goals as goal
 

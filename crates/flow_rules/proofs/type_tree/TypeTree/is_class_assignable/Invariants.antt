@@ -2,7 +2,7 @@ use Rattle.std.proofs.Common.{◌≡◌, ◌-◌, true, Some}
 use Rattle.cil_model.specs.Assignable.{is_class_assignable}
 use Rattle.cil_model.specs.Chains.{longest_chain}
 use Rattle.resolved_code.specs.declared.types.ResolvedElement.TheVariants.{Class}
-use Rattle.flow_rules.specs.Named.{class_named, is_known}
+use Rattle.flow_rules.specs.StackTypes.{class_named, is_known}
 use Rattle.flow_rules.proofs.ChainNumbers.{is_along}
 use Rattle.flow_rules.proofs.type_tree.TypeTree.is_class_assignable.Given as goal
 

@@ -1,7 +1,7 @@
 use Rattle.std.proofs.Common.{◌≡◌, sym, subst}
 use Rattle.cil_model.specs.declared.trees.Tree.{Tree}
 use Rattle.resolved_code.specs.declared.types.ResolvedType.{ResolvedType}
-use Rattle.flow_rules.specs.Named.{type_named}
+use Rattle.flow_rules.specs.StackTypes.{type_named}
 use Rattle.flow_rules.specs.Merging.{IsFork}
 use Rattle.flow_rules.proofs.Classes.{one_type}
 use Rattle.flow_rules.proofs.LineLaws.{meets}

@@ -2,7 +2,7 @@ use Rattle.std.proofs.Common.{◌≡◌, ◌+◌, Some, sym, ap, ◌∙◌}
 use Rattle.cil_model.specs.declared.trees.Tree.{Tree}
 use Rattle.cil_model.specs.declared.types.DeclaredType.{DeclaredType}
 use Rattle.resolved_code.specs.declared.types.ResolvedType.{ResolvedType}
-use Rattle.flow_rules.specs.Named.{type_named}
+use Rattle.flow_rules.specs.StackTypes.{type_named}
 use Rattle.flow_rules.proofs.Classes.{one_type}
 use Rattle.flow_rules.proofs.AncestorChains.{next, too_far}
 use Rattle.flow_rules.proofs.DepthLaws.{NoneYet, level_closest, none_next, level_apart, level_apart_second}

@@ -3,7 +3,7 @@ use Rattle.cil_model.specs.declared.trees.Tree.{Tree}
 use Rattle.cil_model.specs.declared.types.DeclaredType.{DeclaredType}
 use Rattle.cil_model.specs.TypeTree.{ancestor}
 use Rattle.resolved_code.specs.declared.types.ResolvedType.{ResolvedType}
-use Rattle.flow_rules.specs.Named.{type_named}
+use Rattle.flow_rules.specs.StackTypes.{type_named}
 use Rattle.flow_rules.proofs.LineLaws.{merged_first, merged_second}
 use Rattle.flow_rules.proofs.DepthLaws.{deep_enough, brought_level, merged_brought}
 use Rattle.flow_rules.proofs.type_tree.TypeTree.merged_types.Goals as goal

@@ -2,7 +2,7 @@ use Rattle.std.proofs.Common.{◌≡◌, ◌<◌, ◌+◌, ℕ, Some, sym, ap, s
 use Rattle.cil_model.specs.declared.trees.Tree.{Tree}
 use Rattle.resolved_code.specs.declared.types.ResolvedElement.{ResolvedElement}
 use Rattle.resolved_code.specs.declared.types.ResolvedType.{ResolvedType}
-use Rattle.flow_rules.specs.Named.{type_named}
+use Rattle.flow_rules.specs.StackTypes.{type_named}
 use Rattle.flow_rules.specs.Merging.{IsUp}
 use Rattle.flow_rules.proofs.Classes.{if_some_then}
 use Rattle.flow_rules.proofs.LineLaws.{object_after}

@@ -3,7 +3,7 @@ use Rattle.cil_model.specs.declared.trees.Tree.{Tree}
 use Rattle.cil_model.specs.declared.types.Element.{Element}
 use Rattle.cil_model.specs.declared.types.Element.TheVariants as Named
 use Rattle.resolved_code.specs.declared.types.ResolvedElement.{ResolvedElement}
-use Rattle.flow_rules.specs.Named.{element_named, is_known}
+use Rattle.flow_rules.specs.StackTypes.{element_named, is_known}
 use Rattle.flow_rules.specs.Merging.{AreClasses}
 use Rattle.flow_rules.proofs.Classes.{up_to_classes, past_classes}
 use Rattle.flow_rules.proofs.type_tree.TypeTree.without_null.Goals as goal

@@ -1,7 +1,7 @@
 use Rattle.std.proofs.Common.{ℕ, Bool, true, false, Some, map, nat_lt, sym, ap, ◌∙◌, arith}
 use Rattle.std.specs.List.{list_all, list_any}
 use Rattle.inheritance.specs.ScopedTables.{nearest_from}
-use Rattle.inheritance.specs.Marked.{is_marked}
+use Rattle.inheritance.specs.MarkedDeclarations.{is_marked}
 use Rattle.inheritance.proofs.Results.{if_both, if_ok}
 use Rattle.inheritance.proofs.QueryLaws.{below_all, number_of_any, none_of_below}
 use Rattle.inheritance.proofs.inheritance.Inheritance.finds_marked.Goals as goal

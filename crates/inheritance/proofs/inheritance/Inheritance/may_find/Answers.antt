@@ -13,7 +13,7 @@ returns-in-Some-get-clause-reported c = λ ends.
     let rows = map (λ v. v.items) c.args.self.now.scoped_table.changes.items in
     let time = c.in-Some.entry.time in
     let index = c.in-Some-get.ensures.lookup.3 in
-    let entered = sym c.entry.ensures ∙ c.in-Some.is in
+    let entries_are_entered = sym c.entry.ensures ∙ c.in-Some.is in
     ap (nat_lt time) (index.1 0) ∙ sym (c.requires.reach time index.0) ∙
     any_same (λ k. nat_lt k f.keys) (λ k. test (pair_of (known_of rows k time))) (λ k. test (nearest_from f k f.most (Some c.args.class)))
-    (λ k h. ap test (c.args.self.now.right c.args.class c.in-Some.entry entered k (omega (arith, leb-true (suc k) f.keys h)))) c.args.keys.now c.requires.keys
+    (λ k h. ap test (c.args.self.now.lookup_is_correct c.args.class c.in-Some.entry entries_are_entered k (omega (arith, leb-true (suc k) f.keys h)))) c.args.keys.now c.requires.keys

@@ -9,7 +9,7 @@ use Rattle.inheritance.proofs.QueryLaws.{no_ends, none_sought, reach_sought, rea
 use Rattle.inheritance.proofs.inheritance.Inheritance.reach.Goals as goal
 
 pub returns : goal.returns
-returns c = if_both c.reach_of.result c.reach_of.ensures.reach c.reach_of.ensures.width (λ reached right width.
+returns c = if_both c.reach_of.result c.reach_of.ensures.reach c.reach_of.ensures.width (λ reached lookup_is_correct width.
     let test = is_match c.args.query in
     let rows : List (List Change) = map (λ v. v.items) c.args.self.now.scoped_table.changes.items in
     let keys = c.args.keys.now in
@@ -24,7 +24,7 @@ returns c = if_both c.reach_of.result c.reach_of.ensures.reach c.reach_of.ensure
     let till : HoldsTill found c.as_mut_slice.result.now ends =
     subst (HoldsTill found c.as_mut_slice.result.now) value (subst (λ (vs : List (Vec Change Global)). HoldsTill (λ t. finds_at test (map (λ v. v.items) vs) keys t ≡ true) c.as_mut_slice.result.now c.note_rows.new.ends) c.as_slice.ensures.value c.note_rows.ensures.found) in
     let is_beyond : (t : ℕ) → t < length reach → t < slice_index_or reach t 0 → found t = λ t l high.
-    reach_sought found ends c.as_mut_slice.result.now reach t (λ s. ap (λ es. slice_index_or es s 0) (c.as_mut_slice.ensures.value ∙ c.in_ok-ends.ensures.items_if_clones_equal (λ y e. e)) ∙ no_ends c.saturating_mul.result s) till right l high in
+    reach_sought found ends c.as_mut_slice.result.now reach t (λ s. ap (λ es. slice_index_or es s 0) (c.as_mut_slice.ensures.value ∙ c.in_ok-ends.ensures.items_if_clones_equal (λ y e. e)) ∙ no_ends c.saturating_mul.result s) till lookup_is_correct l high in
     let is_none : (t : ℕ) → t < length reach → slice_index_or reach t 0 ≤ t → (index : ℕ) → index < length keys → test (pair_of (known_of rows (slice_index_or keys index 0) t)) ≡ false = λ t l low index k.
-    none_sought test ends reach (changes_of rows (slice_index_or keys index 0)) t (noted index k) (c.args.self.now.ordered (slice_index_or keys index 0)) right width l low in
+    none_sought test ends reach (changes_of rows (slice_index_or keys index 0)) t (noted index k) (c.args.self.now.ordered (slice_index_or keys index 0)) lookup_is_correct width l low in
     λ t l. reach_decides (λ n. test (pair_of (known_of rows n t))) keys t (slice_index_or reach t 0) (is_beyond t l) (is_none t l))

@@ -1,5 +1,5 @@
 use Rattle.std.proofs.Common.{◌≡◌, ℕ, List, Some, slice_get, slice_set, refl, sym, ap, ◌∙◌}
-use Rattle.simulation.specs.Collecting.{status_flipped, thread_flipped, with_flipped}
+use Rattle.simulation.specs.CollectorSteps.{status_flipped, thread_flipped, with_flipped}
 use Rattle.simulation.specs.MachineStates.{MachineState}
 use Rattle.threads_monitors.specs.Frames.{Frames}
 use Rattle.threads_monitors.specs.declared.threads.ThreadStatus.{ThreadStatus}
@@ -12,9 +12,9 @@ use Rattle.interleaving_core.proofs.Threads.HalfSteps.{thread_is}
 use Rattle.interleaving_core.proofs.engine.Engine.flip_held.Goals as goal
 
 -- one thread in place of its flipped self
-placed : (c : MachineState) (t i : ℕ) → i ≡ t → (x new : Thread) → slice_get c.threads t ≡ Some x → new ≡ thread_flipped c.objects x
+with_flipped_is : (c : MachineState) (t i : ℕ) → i ≡ t → (x new : Thread) → slice_get c.threads t ≡ Some x → new ≡ thread_flipped c.objects x
     → ◌≡◌ {A = MachineState} (record c { threads = slice_set c.threads i new }) (record c { threads = with_flipped c.objects c.threads t (slice_get c.threads t) })
-placed c t i number x new there is =
+with_flipped_is c t i number x new there is =
     ap (λ (l : List Thread). record c { threads = l })
     (ap (λ (k : ℕ). slice_set c.threads k new) number
     ∙ (ap (slice_set c.threads t) is ∙ sym (ap (with_flipped c.objects c.threads t) there)))
@@ -32,7 +32,7 @@ returns-in-Live c =
     let heap = c.args.self.now.store.heap in
     let there = read_there threads threads c.args.thread c.from.result thread refl c.from.ensures (c.in-Some.ensures.item.3.0) c.in-Some.ensures.value in
     let as_status : ThreadStatus → Thread = λ s. record { thread_status = s; steps_left = thread.steps_left } in
-    placed (machine_state_of c.args.self.now) c.args.thread c.from.result c.from.ensures thread (as_status (Live c.flip_frames.new.frames)) there
+    with_flipped_is (machine_state_of c.args.self.now) c.args.thread c.from.result c.from.ensures thread (as_status (Live c.flip_frames.new.frames)) there
     (ap (λ (m : Frames). as_status (Live m)) c.flip_frames.ensures ∙ sym (ap (λ (s : ThreadStatus). as_status (status_flipped heap s)) c.in-Live.is))
 
 pub returns-in_default-thread_status : goal.returns-in_default-thread_status
@@ -42,5 +42,5 @@ returns-in_default-thread_status c =
     let heap = c.args.self.now.store.heap in
     let there = read_there threads threads c.args.thread c.from.result thread refl c.from.ensures (c.in-Some.ensures.item.3.0) c.in-Some.ensures.value in
     let as_status : ThreadStatus → Thread = λ s. record { thread_status = s; steps_left = thread.steps_left } in
-    placed (machine_state_of c.args.self.now) c.args.thread c.from.result c.from.ensures thread thread there
+    with_flipped_is (machine_state_of c.args.self.now) c.args.thread c.from.result c.from.ensures thread thread there
     (ap as_status c.in_default-thread_status.is ∙ sym (ap (λ (s : ThreadStatus). as_status (status_flipped heap s)) c.in_default-thread_status.is))

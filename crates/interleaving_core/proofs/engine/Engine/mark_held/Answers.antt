@@ -1,5 +1,5 @@
 use Rattle.std.proofs.Common.{Some, sym, ap, ◌∙◌}
-use Rattle.simulation.specs.Collecting.{with_status_marked, with_thread_marked}
+use Rattle.simulation.specs.CollectorSteps.{with_status_marked, with_thread_marked}
 use Rattle.object_memory.specs.Objects.{Objects}
 use Rattle.interleaving_core.specs.Views.{machine_state_of}
 use Rattle.interleaving_core.proofs.CollectorTransitions.FrameReferences.{held_there}

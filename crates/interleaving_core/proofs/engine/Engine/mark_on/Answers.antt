@@ -1,13 +1,13 @@
 use Rattle.std.proofs.Common.{Bool, sym, ap, ◌∙◌, subst}
 use Rattle.object_memory.specs.Objects.{Objects}
-use Rattle.simulation.specs.collector.Conditions.{AreThere}
+use Rattle.simulation.specs.collector.Conditions.{AreValuesInHeap}
 use Rattle.simulation.specs.collector.declared.progress.Progress.{Progress}
 use Rattle.interleaving_core.specs.Views.{machine_state_of}
 use Rattle.interleaving_core.proofs.CollectorTransitions.CollectorEvents.{none_marked, statics_there}
 use Rattle.interleaving_core.proofs.engine.Engine.mark_on.Goals as goal
 
 pub scan_statics-requires-clause-there : goal.scan_statics-requires-clause-there
-scan_statics-requires-clause-there c = subst (AreThere c.args.self.now.store.heap) (sym c.as_slice.ensures.value) (statics_there (machine_state_of c.args.self.now) c.requires.sound)
+scan_statics-requires-clause-there c = subst (AreValuesInHeap c.args.self.now.store.heap) (sym c.as_slice.ensures.value) (statics_there (machine_state_of c.args.self.now) c.requires.sound)
 
 pub returns : goal.returns
 returns c =

@@ -10,8 +10,8 @@ use Rattle.interleaving_core.proofs.Threads.IndexedThreads.{started_is}
 use Rattle.interleaving_core.proofs.Threads.RefusedMemory.{on_err}
 use Rattle.interleaving_core.proofs.engine.Engine.start.Goals as goal
 
-pub beginning_on-beginning-requires-clause-there : goal.beginning_on-beginning-requires-clause-there
-beginning_on-beginning-requires-clause-there c =
+pub thread_start_on-thread_start-requires-clause-there : goal.thread_start_on-thread_start-requires-clause-there
+thread_start_on-thread_start-requires-clause-there c =
     let free : start_fault c.args.self.now.threads.items c.args.self.now.store.heap c.args.object ≡ None =
     ap (λ (threads : List Thread). start_fault threads c.args.self.now.store.heap c.args.object) (sym c.deref.ensures.value) ∙ sym c.start_fault.ensures ∙ c.in_default.is in
     c.requires.there free
@@ -20,8 +20,8 @@ pub returns-clause-started : goal.returns-clause-started
 returns-clause-started c =
     let free : start_fault c.args.self.now.threads.items c.args.self.now.store.heap c.args.object ≡ None =
     ap (λ (threads : List Thread). start_fault threads c.args.self.now.store.heap c.args.object) (sym c.deref.ensures.value) ∙ sym c.start_fault.ensures ∙ c.in_default.is in
-    started_is c.phase.result c.args.self.now.program c.args.self.now.limits c.args.self.now.threads.items c.args.self.now.store.heap c.args.object (new_thread c.beginning_on-beginning.result (Ref c.args.object ∷ []))
-    (c.start.new.threads.items, c.start.new.heap, c.in_ok-effect.effect) free c.beginning_on-beginning.ensures.begins c.in_ok-effect.ensures.started
+    started_is c.phase.result c.args.self.now.program c.args.self.now.limits c.args.self.now.threads.items c.args.self.now.store.heap c.args.object (new_thread c.thread_start_on-thread_start.result (Ref c.args.object ∷ []))
+    (c.start.new.threads.items, c.start.new.heap, c.in_ok-effect.effect) free c.thread_start_on-thread_start.ensures.begins c.in_ok-effect.ensures.started
     ∙ ap (λ p. start_thread p c.args.self.now.program c.args.self.now.limits c.args.self.now.threads.items c.args.self.now.store.heap c.args.object) c.phase.ensures
 
 pub returns-in_err-effect-clause-started : goal.returns-in_err-effect-clause-started

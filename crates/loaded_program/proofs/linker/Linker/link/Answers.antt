@@ -1,7 +1,7 @@
 use Rattle.std.proofs.Common.{sym, ap, ◌∙◌}
 use Rattle.std.proofs.lemmas.Option.{same_Some}
 use Rattle.loaded_program.specs.declared.instructions.LinkedInstruction.TheVariants.{StoreField, LoadStaticField, StoreStaticField, NewArray, Call}
-use Rattle.loaded_program.specs.Operands.{slot_at, static_at, array_held}
+use Rattle.loaded_program.specs.Operands.{slot_at, static_at, linked_array}
 use Rattle.loaded_program.specs.Links.{link, number_at}
 use Rattle.loaded_program.proofs.LinkLaws.{string_is, mapped_is, field_is, new_is}
 use Rattle.loaded_program.proofs.linker.Linker.link.Goals as goal
@@ -26,7 +26,7 @@ returns-in-StoreStaticField c required e =
     mapped_is (λ number. StoreStaticField number) (static_at c.args.self.now.program.now _) c.slot-in-StoreStaticField.result required c.slot-in-StoreStaticField.ensures.static_field (sym (ap (link c.args.self.now.program.now c.args.has_value) c.in-StoreStaticField.is) ∙ e)
 
 pub returns-in-NewArray : goal.returns-in-NewArray
-returns-in-NewArray c required e = mapped_is (λ element. NewArray element) (array_held c.in-NewArray.held) c.array_element.result required c.array_element.ensures (sym (ap (link c.args.self.now.program.now c.args.has_value) c.in-NewArray.is) ∙ e)
+returns-in-NewArray c required e = mapped_is (λ element. NewArray element) (linked_array c.in-NewArray.held) c.array_element.result required c.array_element.ensures (sym (ap (link c.args.self.now.program.now c.args.has_value) c.in-NewArray.is) ∙ e)
 
 pub returns-in-Call : goal.returns-in-Call
 returns-in-Call c required e = mapped_is (λ number. Call number) (number_at c.args.self.now.program.now _) c.number.result required c.number.ensures (sym (ap (link c.args.self.now.program.now c.args.has_value) c.in-Call.is) ∙ e)

@@ -2,7 +2,7 @@ use Rattle.std.proofs.Common.{ap, ◌∙◌, option_map}
 use Rattle.cil_model.specs.declared.types.ClassName.{ClassName}
 use Rattle.cil_model.specs.declared.trees.Method.{Method}
 use Rattle.name_tables.specs.Numbers.{method_at}
-use Rattle.resolved_code.specs.Resolved.{IsResolvedMethod}
+use Rattle.resolved_code.specs.ResolvedPrograms.{IsResolvedMethod}
 use Rattle.loaded_program.proofs.OperandLaws.{alike_both, alike_none}
 use Rattle.loaded_program.proofs.ResolvedLaws.{arguments_alike}
 use Rattle.loaded_program.proofs.linker.Linker.operands.Goals as goal

@@ -9,8 +9,8 @@ pub returns-in-Some : goal.returns-in-Some
 returns-in-Some c found run class at named runs =
     let tree = c.args.self.now in
     let target = c.in-Some.target in
-    let placed = sym (ap (option_map (λ (n : MethodId). method_at tree (n.class, n.index))) c.in-Some.is) ∙ c.target.ensures tree c.layout.ensures found.0 class found.1 named at ∙ ap (option_map Some) runs in
-    c.number.ensures run (same_Some (method_at tree (target.class, target.index)) (Some run) placed)
+    let target_is = sym (ap (option_map (λ (n : MethodId). method_at tree (n.class, n.index))) c.in-Some.is) ∙ c.target.ensures tree c.layout.ensures found.0 class found.1 named at ∙ ap (option_map Some) runs in
+    c.number.ensures run (same_Some (method_at tree (target.class, target.index)) (Some run) target_is)
 
 pub returns-in-None : goal.returns-in-None
 returns-in-None c found run class at named runs =

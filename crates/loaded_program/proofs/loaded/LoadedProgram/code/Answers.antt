@@ -1,8 +1,8 @@
 use Rattle.std.proofs.Common.{subst, sym, slice_get}
 use Rattle.cil_model.specs.Bodies.{lines_of}
-use Rattle.resolved_code.specs.Resolved.{AllAlike}
+use Rattle.resolved_code.specs.ResolvedPrograms.{AllAlike}
 use Rattle.loaded_program.specs.AllMethods.{all_methods}
-use Rattle.loaded_program.specs.Loaded.{IsLinkedLine}
+use Rattle.loaded_program.specs.LoadedPrograms.{IsLinkedLine}
 use Rattle.loaded_program.proofs.MethodLaws.{some_of}
 use Rattle.loaded_program.proofs.loaded.LoadedProgram.code.Goals as goal
 

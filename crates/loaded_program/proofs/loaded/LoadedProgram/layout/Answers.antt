@@ -1,6 +1,6 @@
 use Rattle.std.proofs.Common.{◌∙◌, subst}
 use Rattle.cil_model.specs.declared.trees.Tree.{Tree}
-use Rattle.class_layout.specs.Laid.{IsLayout}
+use Rattle.class_layout.specs.Layouts.{IsLayout}
 use Rattle.loaded_program.proofs.loaded.LoadedProgram.layout.Goals as goal
 
 pub returns : goal.returns

@@ -2,7 +2,7 @@ use Rattle.std.proofs.Common.{◌≡◌, Some, slice_get, ◌∙◌, ap, subst, 
 use Rattle.cil_model.specs.declared.trees.Tree.{Tree}
 use Rattle.loaded_program.specs.AllMethods.{all_methods, method_id}
 use Rattle.loaded_program.specs.MethodNumbers.{number_of}
-use Rattle.loaded_program.specs.Loaded.{IsLoadedMethod}
+use Rattle.loaded_program.specs.LoadedPrograms.{IsLoadedMethod}
 use Rattle.loaded_program.proofs.loaded.LoadedProgram.method.Goals as goal
 
 pub returns-clause-loaded : goal.returns-clause-loaded

@@ -3,7 +3,7 @@ use Rattle.std.specs.Prelude.{is_some}
 use Rattle.cil_model.specs.Chains.{is_virtual}
 use Rattle.cil_model.specs.Slots.{target}
 use Rattle.resolved_code.specs.ById.{class_name}
-use Rattle.loaded_program.specs.Loaded.{chosen_by}
+use Rattle.loaded_program.specs.LoadedPrograms.{chosen_by}
 use Rattle.loaded_program.proofs.OperandLaws.{then_some, unless_some}
 use Rattle.loaded_program.proofs.MethodLaws.{chosen}
 use Rattle.loaded_program.proofs.loaded.LoadedProgram.target.Goals as goal

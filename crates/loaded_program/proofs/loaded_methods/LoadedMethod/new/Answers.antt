@@ -1,7 +1,7 @@
 use Rattle.std.proofs.Common.{◌≡◌, List, subst, ◌∙◌}
-use Rattle.resolved_code.specs.Resolved.{AllAlike}
+use Rattle.resolved_code.specs.ResolvedPrograms.{AllAlike}
 use Rattle.resolved_code.specs.declared.operations.Operation.{Operation}
-use Rattle.loaded_program.specs.Loaded.{IsLinkedOperation, has_value}
+use Rattle.loaded_program.specs.LoadedPrograms.{IsLinkedOperation, has_value}
 use Rattle.loaded_program.proofs.MethodLaws.{linked_lines}
 use Rattle.loaded_program.proofs.ResolvedLaws.{arguments_alike, locals_alike, value_alike}
 use Rattle.loaded_program.proofs.loaded_methods.LoadedMethod.new.Goals as goal

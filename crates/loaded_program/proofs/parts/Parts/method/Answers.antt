@@ -4,7 +4,7 @@ use Rattle.std.proofs.lemmas.Option.{same_Some, slice_get_within}
 use Rattle.cil_model.specs.declared.trees.Tree.{Tree}
 use Rattle.loaded_program.specs.AllMethods.{all_methods, method_id}
 use Rattle.loaded_program.specs.MethodNumbers.{number_of}
-use Rattle.loaded_program.specs.Loaded.{IsLoadedMethod}
+use Rattle.loaded_program.specs.LoadedPrograms.{IsLoadedMethod}
 use Rattle.loaded_program.specs.declared.loaded_methods.LoadedMethod.{LoadedMethod}
 use Rattle.loaded_program.proofs.NumberLaws.{id_of_number, number_of_index}
 use Rattle.loaded_program.proofs.MethodLaws.{alike_from, some_of}
@@ -28,7 +28,7 @@ returns-clause-loaded c found at =
 pub returns-clause-number : goal.returns-clause-number
 returns-clause-number c found at =
     let there = subst (λ (t : Tree). slice_get (all_methods t) c.args.number ≡ Some found) (sym c.self.view_is) at in
-    subst (λ (t : Tree). number_of t found ≡ Some c.args.number) c.self.view_is (number_of_index c.self.inside.program c.self.invariant.laid_out.legal c.args.number found there)
+    subst (λ (t : Tree). number_of t found ≡ Some c.args.number) c.self.view_is (number_of_index c.self.inside.program c.self.invariant.layout_is.legal c.args.number found there)
 
 pub returns-clause-id : goal.returns-clause-id
 returns-clause-id c =
@@ -36,5 +36,5 @@ returns-clause-id c =
     let found = some_of (slice_get (all_methods tree) c.args.number) (subst (λ (t : Tree). IsSome (slice_get (all_methods t) c.args.number)) (sym c.self.view_is) c.requires) in
     let known = alike_from (IsLoadedMethod tree) (all_methods tree) c.self.inside.methods.items c.args.number found.0 c.self.invariant.loaded found.1 in
     let same : known.0 ≡ c.item.result.now = same_Some known.0 c.item.result.now (sym known.1 ∙ sym (ap (λ ms. slice_get ms c.args.number) c.as_slice.ensures.value) ∙ c.item.ensures) in
-    sym (ap (λ (m : LoadedMethod). m.member) same) ∙ id_of_number tree c.self.invariant.laid_out.legal c.args.number found.0 found.1 known.0.member known.2.member
+    sym (ap (λ (m : LoadedMethod). m.member) same) ∙ id_of_number tree c.self.invariant.layout_is.legal c.args.number found.0 found.1 known.0.member known.2.member
     ∙ ap (λ (t : Tree). method_id t c.args.number) c.self.view_is

@@ -8,11 +8,11 @@ use Rattle.std.proofs.lemmas.Option.{none-some, same_Some, slice_get-map, slice_
 use Rattle.cil_model.specs.declared.trees.Method.{Method}
 use Rattle.cil_model.specs.Chains.{is_virtual}
 use Rattle.name_tables.specs.Entries.{declaration_in}
-use Rattle.name_tables.specs.Inherited.{number_in}
+use Rattle.name_tables.specs.KeyIds.{number_in}
 use Rattle.name_tables.specs.Keys.{method_of_key}
 use Rattle.name_tables.specs.Methods.{has_virtual}
 use Rattle.name_tables.specs.Sameness.{same_identity, identity_of}
-use Rattle.name_tables.specs.SamenessLaws.{same_identity_itself}
+use Rattle.name_tables.specs.SamenessLaws.{same_identity_reflexive}
 use Rattle.name_tables.proofs.FirstIndices.{is_some-position_from}
 use Rattle.name_tables.proofs.Lists.{option_map_of_map}
 use Rattle.name_tables.proofs.NumberLaws.{position_from-map, found_some}
@@ -58,7 +58,7 @@ reported c =
     let found : option_map (λ (m : Bor Method). m.now) c.method_at.result ≡ slice_get ms n =
     ap (option_map (λ m. m.now)) (c.method_at.ensures ∙ ap (λ xs. slice_get xs n) c.as_slice.ensures.value) ∙ sym (slice_get-map (λ m. m.now) c.args.self.now.class.methods.items n) in
     sym (option_map_of_map (λ m. find (λ z. same_identity (identity_of m) (identity_of z)) ms) virtual_of (slice_get ms c.args.index)) ∙
-    ap (option_map virtual_of) (first_same method_of_key identity_of same_identity same_identity_itself c.args.self.now.methods ms c.args.self.now.methods_are c.args.index c.requires) ∙
+    ap (option_map virtual_of) (first_same method_of_key identity_of same_identity same_identity_reflexive c.args.self.now.methods ms c.args.self.now.methods_are c.args.index c.requires) ∙
     ap (λ ns. Some (virtual_of (slice_get ms (get_or ns c.args.index 0)))) (sym c.numbers.ensures) ∙ ap (λ o. Some (virtual_of o)) (sym found)
 
 pub returns-in-None : goal.returns-in-None

@@ -1,5 +1,5 @@
 use Rattle.std.proofs.Common.{◌<◌, ◌+◌, length, arith}
-use Rattle.name_tables.specs.Inherited.{number_in}
+use Rattle.name_tables.specs.KeyIds.{number_in}
 use Rattle.name_tables.proofs.KeyNumbers.{number_within}
 use Rattle.name_tables.proofs.inherited.Inherited.find.Goals as goal
 

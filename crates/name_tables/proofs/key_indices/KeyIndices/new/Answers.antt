@@ -1,7 +1,7 @@
 use Rattle.std.proofs.Common.{map, ap, ◌∙◌}
 use Rattle.std.specs.List.{position_from}
 use Rattle.cil_model.specs.Legality.{has_repeat}
-use Rattle.name_tables.specs.Inherited.{number_in}
+use Rattle.name_tables.specs.KeyIds.{number_in}
 use Rattle.name_tables.proofs.key_indices.KeyIndices.new.Goals as goal
 
 pub invariant_of-result : goal.invariant_of-result

@@ -2,9 +2,9 @@ use Rattle.std.proofs.Common.{◌≡◌, ◌<◌, ◌+◌, true, Some, slice_get
 use Rattle.std.proofs.lemmas.List.{length-map}
 use Rattle.inheritance.specs.Lines.{Ends}
 use Rattle.inheritance.specs.ScopedTables.{nearest_from}
-use Rattle.inheritance.specs.Marked.{is_marked}
+use Rattle.inheritance.specs.MarkedDeclarations.{is_marked}
 use Rattle.name_tables.specs.declared.keys.MethodKey.{MethodKey}
-use Rattle.name_tables.specs.Inherited.{number_in}
+use Rattle.name_tables.specs.KeyIds.{number_in}
 use Rattle.name_tables.specs.Keys.{method_of_key}
 use Rattle.name_tables.specs.Methods.{identity_number, method_index, line_of}
 use Rattle.name_tables.specs.Numbers.{nearest_number}

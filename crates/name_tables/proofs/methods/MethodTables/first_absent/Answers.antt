@@ -3,7 +3,7 @@ use Rattle.std.specs.List.{list_all}
 use Rattle.cil_model.specs.declared.trees.Method.{Method}
 use Rattle.inheritance.specs.Lines.{Ends}
 use Rattle.inheritance.specs.ScopedTables.{nearest_from}
-use Rattle.name_tables.specs.Inherited.{number_in}
+use Rattle.name_tables.specs.KeyIds.{number_in}
 use Rattle.name_tables.specs.Methods.{identity_number, virtual_number, virtual_index, methods_at}
 use Rattle.name_tables.proofs.MemberLaws.{of_tree, some_where_some}
 use Rattle.name_tables.proofs.VirtualNumbers.{said_of_numbers, found_by_numbers}

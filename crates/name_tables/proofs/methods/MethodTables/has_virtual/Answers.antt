@@ -1,7 +1,7 @@
 use Rattle.std.proofs.Common.{◌≡◌, ◌==◌, ℕ, Option, Some, None, is_some, option_map, refl, sym, ap, ◌∙◌}
 use Rattle.inheritance.specs.Lines.{Ends}
 use Rattle.inheritance.specs.ScopedTables.{nearest_from}
-use Rattle.name_tables.specs.Inherited.{number_in}
+use Rattle.name_tables.specs.KeyIds.{number_in}
 use Rattle.name_tables.specs.Keys.{method_of_key}
 use Rattle.name_tables.specs.Methods.{virtual_number, virtual_index}
 use Rattle.name_tables.specs.Sameness.{same_identity}

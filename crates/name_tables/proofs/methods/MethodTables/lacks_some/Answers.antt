@@ -3,7 +3,7 @@ use Rattle.std.specs.List.{list_all}
 use Rattle.cil_model.specs.declared.trees.Method.{Method}
 use Rattle.inheritance.specs.Lines.{Ends}
 use Rattle.inheritance.specs.ScopedTables.{nearest_from}
-use Rattle.name_tables.specs.Inherited.{number_in}
+use Rattle.name_tables.specs.KeyIds.{number_in}
 use Rattle.name_tables.specs.Methods.{identity_number, virtual_number, virtual_index, line_of, methods_at}
 use Rattle.name_tables.specs.Numbers.{nearest_number}
 use Rattle.name_tables.specs.Sameness.{identity_of}

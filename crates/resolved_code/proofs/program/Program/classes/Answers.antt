@@ -1,5 +1,5 @@
 use Rattle.std.proofs.Common.{sym, subst}
-use Rattle.resolved_code.specs.Resolved.{AreResolved}
+use Rattle.resolved_code.specs.ResolvedPrograms.{AreResolved}
 use Rattle.resolved_code.proofs.program.Program.classes.Goals as goal
 
 pub returns : goal.returns

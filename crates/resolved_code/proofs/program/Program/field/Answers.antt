@@ -1,7 +1,7 @@
 use Rattle.std.proofs.Common.{sym, subst}
 use Rattle.cil_model.specs.Declarations.{Declaration}
 use Rattle.resolved_code.specs.declared.classes.ResolvedClass.{ResolvedClass}
-use Rattle.resolved_code.specs.Resolved.{IsResolvedClass, IsResolvedField}
+use Rattle.resolved_code.specs.ResolvedPrograms.{IsResolvedClass, IsResolvedField}
 use Rattle.resolved_code.specs.Contents.{IsFieldOf}
 use Rattle.resolved_code.proofs.ListLaws.RelatedItems.{members_alike}
 use Rattle.resolved_code.proofs.program.Program.field.Goals as goal

@@ -1,7 +1,7 @@
 use Rattle.std.proofs.Common.{sym, subst}
 use Rattle.cil_model.specs.Declarations.{Declaration}
 use Rattle.resolved_code.specs.declared.classes.ResolvedClass.{ResolvedClass}
-use Rattle.resolved_code.specs.Resolved.{IsResolvedClass, IsResolvedMethod}
+use Rattle.resolved_code.specs.ResolvedPrograms.{IsResolvedClass, IsResolvedMethod}
 use Rattle.resolved_code.specs.Contents.{IsMethodOf}
 use Rattle.resolved_code.proofs.ListLaws.RelatedItems.{members_alike}
 use Rattle.resolved_code.proofs.program.Program.method.Goals as goal

@@ -27,12 +27,12 @@ use denote.Signature.{plain, types_at}
 use denote.Steps.{nothing, heard}
 use denote.Triple.Walked.{Stays, stay_dropped, walk_of, Goes-dropped}
 use Rattle.space_block.specs.Memory.{lent_word, words_lent}
-use Rattle.space_block.specs.Written.{IsWritten}
+use Rattle.space_block.specs.WrittenWords.{IsWritten}
 use Rattle.space_block.specs.contracts.words.Words as words
 use Rattle.space_block.specs.contracts.words.Front as front
 use Rattle.space_block.specs.contracts.words.Words.read.{ended, clauses}
 use Rattle.space_block.specs.contracts.words.Words.read.Key.{name as #self}
-use Rattle.space_block.proofs.Places.{place_seen, written_inside}
+use Rattle.space_block.proofs.Slots.{slot_seen, written_inside}
 use Rattle.space_block.proofs.Values.{front_val, front_decoded}
 use Rattle.space_block.proofs.words.Words.read.Statement.{statement}
 use Rattle.space_block.proofs.words.Words.read.Code as code
@@ -49,21 +49,21 @@ read_spec 𝓤 𝓛 𝓜 𝓡 wired =
     let At : List Val × (List Val × (List Val × Unit {0})) → (walk_of 𝓛 ended hs c).Ghost = λ vss. ((κs, qs, y₀.0.2, a, vss), y₀.1) in
     let y : (walk_of 𝓛 ended hs c).Ghost = At (vptr b o ∷ [], (front_val start ∷ [], (vint w64 i ∷ [], tt))) in
     let Post : Val → SProp 𝓤 = (walk_of 𝓛 ended hs c).post y in
-    let Asked : Type 0 = (start ≡ h.at) × IsWritten h.places i in
+    let Asked : Type 0 = (start ≡ h.at) × IsWritten h.slots i in
     subst (λ (vss : List Val × (List Val × (List Val × Unit {0}))). ent 𝓤 ((walk_of 𝓛 ended hs c).pre (At vss)) (WpFn 𝓤 H 𝓣.C 𝓣.Λ fn ((walk_of 𝓛 ended hs c).args (At vss)) ((walk_of 𝓛 ended hs c).post (At vss))))
     (λ j. (sym are.0.0 j, (sym (front_decoded start y₀.0.4.1.0 are.1.0) j, (sym are.1.1.0.0 j, tt)))) (
     qed 𝓛 (((‵ (flft κ qs.0) ⊛ ‵ ftrue) ⊛ ‵ (owns (types_at ended.signature.params κs) a y.0.4)) ∷ raw (fact 𝓤 Asked) ∷ []) ∵
     move ! (1 ∷ []) $ heard ! Asked (λ asked. split ! $ split ! $ move ! (2 ∷ []) $ fsplit ! $ fsplit ! $ keep ! (1 ∷ 3 ∷ []) $
     enter ! 𝓣.C 𝓣.Λ fn (vptr b o ∷ front_val start ∷ vint w64 i ∷ []) Post $
     alloc_all ! (λ l. pass_all ! refl ((tt, tt), (word-Good [] start, ((tt, record { fits = are.1.1.0.1 }), tt))) $ let En : Env 𝓤 H = env fn.locals l in
-    unhide ! $ fsplit ! $ drop ! $ in_a_block ! h.at (λ p. words_lent p h.places κ) (id⊢ 𝓤 (never 𝓤)) (λ b' o' e. fsplit ! $ flt_l ! (λ small.
-    let w = asked.1.0 in let at = i * 8 + o' in let within = written_inside h.places i w asked.1.1 in
+    unhide ! $ fsplit ! $ drop ! $ in_a_block ! h.at (λ p. words_lent p h.slots κ) (id⊢ 𝓤 (never 𝓤)) (λ b' o' e. fsplit ! $ flt_l ! (λ small.
+    let w = asked.1.0 in let at = i * 8 + o' in let within = written_inside h.slots i w asked.1.1 in
     let far : i * 8 < 2 ^ 64 = omega (arith, small, within) in
-    let Decoded : Type 0 = get_or h.places i None ≡ Some w in let Seen : Fml = hidden_shr u64 κ w b' at in
+    let Decoded : Type 0 = get_or h.slots i None ≡ Some w in let Seen : Fml = hidden_shr u64 κ w b' at in
     take_at ! 2 $ rewrite ! 0 (λ (p : Ptr). ‵ (fat full_share (lone F.mir) (l 2) 0 (front_val p))) (asked.0 ∙ e) refl $ give_at ! 2 $ first ! $ blocks ! $
     sets ! (bin ! (get ! refl) (lit ! tt) (record { fits = far })) refl (tt, record { fits = far }) $
     sets ! (bin ! (get_in ! (fld ! refl (stop !)) (sub ! 0 refl (whole !))) (get ! refl) tt) refl (tt, tt) $
-    use1 𝓛 (‵ (lent_word b' at (get_or h.places i None) κ)) (place_seen 𝓛 b' κ o' at h.places i within refl) $
+    use1 𝓛 (‵ (lent_word b' at (get_or h.slots i None) κ)) (slot_seen 𝓛 b' κ o' at h.slots i within refl) $
     rewrite ! 0 (λ (p : Option ℕ). ‵ (lent_word b' at p κ)) asked.1.1 refl $ hide ! $
     word_in ! tt w b' at (qed 𝓛 (‵ Seen ∷ []) {P = sep 𝓤 (sem 𝓛 Seen) (sem 𝓛 Seen)} (shr_dup ! u64 (uint_row_laws w64) w b' at κ $ done !)) (λ q' fits.
     -- [nothing; the word; the way back; what shows it]

@@ -24,12 +24,12 @@ use denote.RawPtr.{Ptr, in_a_block}
 use denote.Signature.{plain, types_at}
 use denote.Steps.{nothing, heard, opens, closes}
 use denote.Triple.Walked.{Stays, stay_dropped, stay_ref, walk_of, Goes-dropped, Goes-ref}
-use Rattle.space_block.specs.Memory.{place, places, words_owned}
+use Rattle.space_block.specs.Memory.{slot, slots, words_owned}
 use Rattle.space_block.specs.contracts.words.Words as words
 use Rattle.space_block.specs.contracts.words.Front as front
 use Rattle.space_block.specs.contracts.words.Words.write.{ended, clauses}
 use Rattle.space_block.specs.contracts.words.Words.write.Key.{name as #self}
-use Rattle.space_block.proofs.Places.{Besides, place_out, place_in, place_room}
+use Rattle.space_block.proofs.Slots.{Besides, slot_out, slot_in, slot_room}
 use Rattle.space_block.proofs.Values.{front_val, front_decoded}
 use Rattle.space_block.proofs.words.Words.write.Statement.{statement}
 use Rattle.space_block.proofs.words.Words.write.Code as code
@@ -46,9 +46,9 @@ write_spec 𝓤 𝓛 𝓜 𝓡 wired =
     let At : List Val × (List Val × (List Val × (List Val × Unit {0}))) → (walk_of 𝓛 ended hs c).Ghost = λ vss. ((κs, qs, y₀.0.2, a, vss), y₀.1) in
     let y : (walk_of 𝓛 ended hs c).Ghost = At (vptr b o ∷ [], (front_val start ∷ [], (vint w64 i ∷ [], (vint w64 w ∷ [], tt)))) in
     let Post : Val → SProp 𝓤 = (walk_of 𝓛 ended hs c).post y in
-    let Asked : Type 0 = (start ≡ h.at) × (i < length h.places) in
-    let new : R.Denot = record { at = h.at; places = set h.places i (Some w) } in
-    let Decoded : Type 0 = (new.at ≡ h.at) × (new.places ≡ set h.places i (Some w)) in
+    let Asked : Type 0 = (start ≡ h.at) × (i < length h.slots) in
+    let new : R.Denot = record { at = h.at; slots = set h.slots i (Some w) } in
+    let Decoded : Type 0 = (new.at ≡ h.at) × (new.slots ≡ set h.slots i (Some w)) in
     subst (λ (vss : List Val × (List Val × (List Val × (List Val × Unit {0})))). ent 𝓤 ((walk_of 𝓛 ended hs c).pre (At vss)) (WpFn 𝓤 H 𝓣.C 𝓣.Λ fn ((walk_of 𝓛 ended hs c).args (At vss)) ((walk_of 𝓛 ended hs c).post (At vss))))
     (λ j. (sym are.0.0 j, (sym (front_decoded start y₀.0.4.1.0 are.1.0) j, (sym are.1.1.0.0 j, (sym are.1.1.1.0.0 j, tt))))) (
     qed 𝓛 (((‵ (flft κs.0 qs.0) ⊛ ‵ ftrue) ⊛ ‵ (owns (types_at ended.signature.params κs) a y.0.4)) ∷ raw (fact 𝓤 Asked) ∷ []) ∵
@@ -56,20 +56,20 @@ write_spec 𝓤 𝓛 𝓜 𝓡 wired =
     enter ! 𝓣.C 𝓣.Λ fn (vptr b o ∷ front_val start ∷ vint w64 i ∷ vint w64 w ∷ []) Post $
     alloc_all ! (λ l. pass_all ! refl ((tt, tt), (word-Good [] start, ((tt, record { fits = are.1.1.0.1 }), ((tt, record { fits = are.1.1.1.0.1 }), tt)))) $ let En : Env 𝓤 H = env fn.locals l in
     opens ! tt R {h = h} b o (λ us. move ! (1 ∷ []) $ fsplit ! $ move ! (1 ∷ []) $
-    in_a_block ! h.at (λ p. words_owned p h.places) (id⊢ 𝓤 (never 𝓤)) (λ b' o' e. fsplit ! $ flt_l ! (λ small.
+    in_a_block ! h.at (λ p. words_owned p h.slots) (id⊢ 𝓤 (never 𝓤)) (λ b' o' e. fsplit ! $ flt_l ! (λ small.
     let far : i * 8 < 2 ^ 64 = omega (arith, small, asked.1) in
     take_at ! 2 $ rewrite ! 0 (λ (p : Ptr). ‵ (fat full_share (lone F.mir) (l 2) 0 (front_val p))) (asked.0 ∙ e) refl $ give_at ! 2 $ first ! $ blocks ! $
     sets ! (bin ! (get ! refl) (lit ! tt) (record { fits = far })) refl (tt, record { fits = far }) $
     sets ! (bin ! (get_in ! (fld ! refl (stop !)) (sub ! 0 refl (whole !))) (get ! refl) tt) refl (tt, tt) $
-    use1 𝓛 (‵ (place b' (i * 8 + o') (get_or h.places i None)) ⊛ ‵ (Besides 𝓛 b' o' h.places i)) (place_out 𝓛 b' o' h.places i asked.1) $ split ! $
-    use1 𝓛 (‵ (froom (ty_int w64) b' (i * 8 + o'))) (place_room 𝓛 b' (i * 8 + o') (get_or h.places i None)) $
-    -- [room for the word; the other places; what the fields own; the struct's cell; the open borrow, in three entries]
+    use1 𝓛 (‵ (slot b' (i * 8 + o') (get_or h.slots i None)) ⊛ ‵ (Besides 𝓛 b' o' h.slots i)) (slot_out 𝓛 b' o' h.slots i asked.1) $ split ! $
+    use1 𝓛 (‵ (froom (ty_int w64) b' (i * 8 + o'))) (slot_room 𝓛 b' (i * 8 + o') (get_or h.slots i None)) $
+    -- [room for the word; the other slots; what the fields own; the struct's cell; the open borrow, in three entries]
     assigns_last ! (of_opd ! (get ! refl)) (through ! refl (stop !)) (init ! 0 refl (tt, record { fits = are.1.1.1.0.1 })) $
     exec ! 𝓣.C 𝓣.Λ En (after 1 fn.body) (at_ret En Post) $ sets ! (of_opd ! (unit_lit !)) refl (tt, tt) $
-    use1 𝓛 (‵ (place b' (i * 8 + o') (Some w))) (uint_in 𝓛 full_share w64 w b' (i * 8 + o')) $
-    use2 𝓛 (‵ (places b' o' new.places)) (place_in 𝓛 b' o' h.places i asked.1 (Some w)) $
-    flt_i ! (length new.places * 8) (2 ^ 63) (subst (λ k. k * 8 < 2 ^ 63) (sym (length-set h.places i (Some w))) small) $ fjoin ! $
-    rewrite ! 0 (λ (p : Ptr). ‵ (words_owned p new.places)) (sym e) refl $ move ! (1 ∷ 0 ∷ []) $ fjoin ! $ move ! (1 ∷ 0 ∷ []) $ closes ! tt R new us b o $
+    use1 𝓛 (‵ (slot b' (i * 8 + o') (Some w))) (uint_in 𝓛 full_share w64 w b' (i * 8 + o')) $
+    use2 𝓛 (‵ (slots b' o' new.slots)) (slot_in 𝓛 b' o' h.slots i asked.1 (Some w)) $
+    flt_i ! (length new.slots * 8) (2 ^ 63) (subst (λ k. k * 8 < 2 ^ 63) (sym (length-set h.slots i (Some w))) small) $ fjoin ! $
+    rewrite ! 0 (λ (p : Ptr). ‵ (words_owned p new.slots)) (sym e) refl $ move ! (1 ∷ 0 ∷ []) $ fjoin ! $ move ! (1 ∷ 0 ∷ []) $ closes ! tt R new us b o $
     returns ! (look_at ! 0 refl) $ free_all ! refl $ keep ! (0 ∷ 1 ∷ 2 ∷ []) $
     feq_i ! (List Val) (vptr b o ∷ []) (vptr b o ∷ []) refl $ fjoin3 ! $
     nothing ! $ nothing ! $ fjoin ! $ nothing ! $ fjoin ! $ nothing ! $ fjoin ! $ move ! (1 ∷ 0 ∷ []) $ fjoin ! $

@@ -8,8 +8,8 @@ use Rattle.threads_monitors.proofs.frames.FrameMemory.runs_same.Goals as goal
 
 pub returns-then-is_same_activation : goal.returns-then-is_same_activation
 returns-then-is_same_activation c =
-    let mine = c.following.ensures ∙ ap (drop c.self.inside.running.arguments) c.deref.ensures.value in
-    let theirs = c.following-then-is_same_activation.ensures ∙ ap (drop c.other.inside.running.arguments) c.deref-then-is_same_activation.ensures.value in
+    let mine = c.values_from.ensures ∙ ap (drop c.self.inside.running.arguments) c.deref.ensures.value in
+    let theirs = c.values_from-then-is_same_activation.ensures ∙ ap (drop c.other.inside.running.arguments) c.deref-then-is_same_activation.ensures.value in
     let first = own_frame c.self.inside.values.items c.self.inside.running c.self.inside.below.items c.self.inside.depth c.self.inside.room (vec_capacity c.self.inside.values) (vec_capacity c.self.inside.below) c.self.invariant in
     let second = own_frame c.other.inside.values.items c.other.inside.running c.other.inside.below.items c.other.inside.depth c.other.inside.room (vec_capacity c.other.inside.values) (vec_capacity c.other.inside.below) c.other.invariant in
     let values = own_values c.self.inside.values.items c.self.inside.running c.self.inside.below.items c.self.inside.depth c.self.inside.room (vec_capacity c.self.inside.values) (vec_capacity c.self.inside.below) c.self.invariant in

@@ -11,7 +11,7 @@ push_values-requires c =
     let room = room_for_other c.self.inside.values.items c.self.inside.running c.self.inside.below.items c.self.inside.depth c.self.inside.room (vec_capacity c.self.inside.values) (vec_capacity c.self.inside.below) c.self.invariant
     c.other.inside.values.items c.other.inside.running c.other.inside.below.items c.other.inside.depth c.other.inside.room (vec_capacity c.other.inside.values) (vec_capacity c.other.inside.below) c.other.invariant fits in
     let kept = ap length c.truncate.ensures.items in
-    let taken = ap length (c.following.ensures ∙ ap (drop c.other.inside.running.arguments) c.deref.ensures.value) in
+    let taken = ap length (c.values_from.ensures ∙ ap (drop c.other.inside.running.arguments) c.deref.ensures.value) in
     record { room = omega (arith, room, kept, taken, c.truncate.ensures.capacity) }
 
 set : (c : goal.After-self-1) → Holds c.push_values.new.values.items c.move_activation-self-inside.result c.self.inside.below.items c.self.inside.depth c.self.inside.room (vec_capacity c.push_values.new.values) (vec_capacity c.self.inside.below)
@@ -19,11 +19,11 @@ set : (c : goal.After-self-1) → Holds c.push_values.new.values.items c.move_ac
     (visible_frames c.other.inside.values.items c.other.inside.running c.other.inside.below.items c.other.inside.depth c.other.inside.room).running)
 set c =
     let fits = rw (← c.self.view_is, ← c.other.view_is) at c.requires in
-    let taken = c.following.ensures ∙ ap (drop c.other.inside.running.arguments) c.deref.ensures.value in
+    let taken = c.values_from.ensures ∙ ap (drop c.other.inside.running.arguments) c.deref.ensures.value in
     is_set c.self.inside.values.items c.self.inside.running c.self.inside.below.items c.self.inside.depth c.self.inside.room (vec_capacity c.self.inside.values) (vec_capacity c.self.inside.below) c.self.invariant
     c.other.inside.values.items c.other.inside.running c.other.inside.below.items c.other.inside.depth c.other.inside.room (vec_capacity c.other.inside.values) (vec_capacity c.other.inside.below) c.other.invariant fits
     c.push_values.new.values.items c.move_activation-self-inside.result (vec_capacity c.push_values.new.values)
-    (c.push_values.ensures.items ∙ ap (λ xs. xs ++ c.following.result.now) c.truncate.ensures.items ∙ ap (λ xs. take c.self.inside.running.arguments c.self.inside.values.items ++ xs) taken)
+    (c.push_values.ensures.items ∙ ap (λ xs. xs ++ c.values_from.result.now) c.truncate.ensures.items ∙ ap (λ xs. take c.self.inside.running.arguments c.self.inside.values.items ++ xs) taken)
     c.move_activation-self-inside.ensures
     (c.push_values.ensures.capacity ∙ c.truncate.ensures.capacity)
 

@@ -1,7 +1,7 @@
 use Rattle.std.proofs.Common.{◌≡◌, ◌≤◌, List, Option, Some, slice_get, pos, sym, ap, ◌∙◌}
 use Rattle.std.proofs.lemmas.Option.{slice_get_within}
 use Rattle.std.proofs.lemmas.Result.{err_from_is_err_and}
-use Rattle.flow_rules.specs.Named.{stack_types}
+use Rattle.flow_rules.specs.StackTypes.{stack_types}
 use Rattle.flow_rules.specs.declared.entries.StackEntry.{StackEntry}
 use Rattle.verifier.specs.Ways.{ways_on}
 use Rattle.verifier.specs.Answers.{work_left, IsWhole}

@@ -1,7 +1,7 @@
 use Rattle.std.proofs.Common.{subst}
 use Rattle.cil_model.specs.declared.trees.Tree.{Tree}
 use Rattle.cil_model.specs.Typings.{IsAccepted}
-use Rattle.class_layout.specs.Laid.{IsLayout}
+use Rattle.class_layout.specs.Layouts.{IsLayout}
 use Rattle.verifier.proofs.TypingLaws.{accepted}
 use Rattle.verifier.proofs.verified.Verified.into_parts.Goals as goal
 

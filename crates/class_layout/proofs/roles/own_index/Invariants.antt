@@ -1,7 +1,0 @@
-use Rattle.std.proofs.Common.{◌≡◌, ◌==◌, ◌&&◌, not, drop}
-use Rattle.std.specs.List.{position_from}
-use Rattle.class_layout.specs.Roles.{is_static_by_id, own_index}
-use Rattle.class_layout.proofs.roles.own_index.Given as goal
-
-abbrev pub invariant-loop-index : goal.invariant-loop-index
-invariant-loop-index l = position_from (λ r. (l.identity == r.identity) && not (is_static_by_id r.kind)) l.index (drop l.index l.methods) ≡ own_index l.identity l.methods
