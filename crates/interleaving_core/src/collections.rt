@@ -27,6 +27,7 @@ use std::alloc::Global;
 impl Engine {
     /// An event of the collector. It waits where a live thread has not acknowledged the posted phase. Running out of memory, which only the event
     /// that opens a cycle can cause, changes nothing.
+    #[inline(always)]
     pub(crate) fn collect(&mut self, alloc: Global) -> Result<Report, NoMemory>
         requires limits { are_in_range self.old.limits ≡ true }
         requires sound { IsSound (machine_state_of self.old) }

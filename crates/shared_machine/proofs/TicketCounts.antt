@@ -84,6 +84,14 @@ worked_in_place workers t u thread (Err e) counted same own = subst (λ (v : Cou
 pub worked_then : (workers : ℕ) (t u v : Count) (thread : ℕ) → IsOwn workers t.worker (Step thread) → HasWorked workers t u → ((n : ℕ) → IsOwn n u.worker (Step thread) → HasWorked n u v) → HasWorked workers t v
 worked_then workers t u v thread own before more = worked_both workers t u v before (more workers (own.0, subst (λ w. is_driven_by workers w thread ≡ true) (sym before.same) own.1))
 
+-- the first thread is worker 0's own, where it is alone
+pub first_is_own : (worker : ℕ) → worker ≡ 0 → IsOwn 1 worker (Step 0)
+first_is_own worker is = subst (λ w. IsOwn 1 w (Step 0)) (sym is) (omega arith, refl)
+
+-- worker 0 alone has done events of its own, and then more
+pub worked_alone : (t u v : Count) → (t.worker ≡ 0 → HasWorked 1 t u) → (u.worker ≡ 0 → HasWorked 1 u v) → t.worker ≡ 0 → HasWorked 1 t v
+worked_alone t u v first second is = let done = first is in worked_both 1 t u v done (second (done.same ∙ is))
+
 -- the same workers and the same ticket under equations
 pub worked_as : (workers workers' : ℕ) (t t' u : Count) → workers' ≡ workers → t' ≡ t → HasWorked workers' t' u → HasWorked workers t u
 worked_as workers workers' t t' u same same' did = subst (λ (p : ℕ × Count). HasWorked p.0 p.1 u) (λ k. (same k, same' k)) did

@@ -6,7 +6,7 @@ use cil_model::reports::Report;
 /// In how many passes of a row in which the collector waits for another worker each is followed by double the yields of the one before.
 const PATIENT_PASSES: u32 = 8;
 
-/// In how many passes of such a row in which the lock was given back for local instructions, which take no memory, it yields once.
+/// In how many passes of such a row in which its threads made progress by local instructions, which take no memory, it yields once.
 const LOCAL_PASSES: u32 = 64;
 
 /// How often a worker that drives no live thread yields after the first pass of a row of them; after each of the next ones twice as often.
@@ -23,6 +23,8 @@ const PASSES_TO_A_LOOK: u32 = 64;
 pub(crate) enum Progress {
     /// A thread or the collector made progress.
     Made,
+    /// Threads made progress by local instructions alone, which take no memory, under the lock.
+    MadeLocally,
     /// A thread made progress by local instructions, and the lock was given back meanwhile.
     MadeApart,
     /// Each thread that was asked is blocked or absent, and the collector waits.
@@ -47,13 +49,19 @@ impl Progress {
         match (self, next) {
             (Progress::OutOfMemory, _) | (_, Progress::OutOfMemory) => Progress::OutOfMemory,
             (Progress::MadeApart, _) | (_, Progress::MadeApart) => Progress::MadeApart,
-            (Progress::None, Progress::None) => Progress::None,
+            (Progress::None, other) | (other, Progress::None) => other,
+            (Progress::MadeLocally, Progress::MadeLocally) => Progress::MadeLocally,
             _ => Progress::Made,
         }
     }
 
     pub fn lasts(self) -> bool {
         self != Progress::OutOfMemory
+    }
+
+    /// Whether threads made progress by local instructions.
+    fn is_local(self) -> bool {
+        matches!(self, Progress::MadeLocally | Progress::MadeApart)
     }
 }
 
@@ -134,7 +142,7 @@ impl Pace {
     /// How often one of several workers yields after such a pass. While the collector waits for another worker, it is twice as often after
     /// each pass, for some passes, so that the worker's threads hardly make progress meanwhile.
     pub fn yields(self, passed: &Passed) -> u32 {
-        if self.late > 0 && passed.steps == Progress::MadeApart {
+        if self.late > 0 && passed.steps.is_local() {
             if self.late % LOCAL_PASSES == 0 { 1 } else { 0 }
         } else if self.late > PATIENT_PASSES {
             1

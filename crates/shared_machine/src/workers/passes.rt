@@ -26,8 +26,11 @@ use std::sync::{Mutex, MutexGuard, Wait};
 /// The most local instructions of a thread in a pass.
 const MOST_LOCAL: u32 = 64;
 
-/// How many of them one of several workers does under the lock, before it lends the frame for the others.
+/// How many of them a worker other than worker 0 does under the lock, before it lends the frame for the others.
 const FEW_LOCAL: u32 = 16;
+
+/// How many passes a worker alone makes in a row with one look at the threads.
+const PASSES_IN_A_ROW: u32 = 64;
 
 /// How many passes a worker makes on one loan, where they need nothing but the lent frame.
 const PASSES_ON_A_LOAN: u32 = 64;
@@ -80,31 +83,23 @@ fn take_back<M: Initial>(
     }
 }
 
-/// The most local instructions that a worker does on one loan, by how many live threads it drives: those of a pass, or of some passes in a row
-/// that need nothing but the thread's frame, since no event of the collector and no other thread of the worker comes between them.
-fn most_on_loan(plan: Plan, worker: u8, served: usize) -> u32
-    ensures herald { worker ≡ 0 → result ≡ MOST_LOCAL }
+/// The most local instructions that a worker other than worker 0 does on one loan, by how many live threads it drives: those of a pass, or of some passes
+/// in a row that need nothing but the thread's frame, since no event of the collector and no other thread of the worker comes between them.
+fn most_on_loan(plan: Plan, served: usize) -> u32
     ensures several { served ≢ 1 → result ≡ MOST_LOCAL }
     ensures held { plan.is_open ≡ false → result ≡ MOST_LOCAL }
     ensures least { MOST_LOCAL ≤ result }
 {
-    if plan.is_open && worker != 0 && served == 1 {
+    if plan.is_open && served == 1 {
         MOST_LOCAL * PASSES_ON_A_LOAN
     } else {
         MOST_LOCAL
     }
 }
 
-/// How many of the local instructions of a thread a worker does under the lock, before it lends the frame for the others: all of a pass where it is
-/// alone, since nobody waits for the lock.
-fn most_in_place(workers: u8) -> u32
-    ensures { result ≤ MOST_LOCAL }
-{
-    if workers == 1 { MOST_LOCAL } else { FEW_LOCAL }
-}
-
 /// Has a thread do local instructions where it is, as `step_locally`, unless its next instruction is known not to be local. Where the thread is the
 /// worker's own, the worker has done nothing else.
+#[inline(always)]
 fn step_in_place<M: Initial>(
     world: &mut World<M>,
     ticket: &mut Ticket<M>,
@@ -146,9 +141,33 @@ fn run_apart<'s, M: Initial, R: Wait>(
     (progress, again)
 }
 
+/// Advances a thread where it is, under the lock that is held: by at most this many local instructions, or, where its next instruction is not local, by one
+/// step. Where the thread is the worker's own, the worker has done nothing else.
+// A call costs more than the instructions of a short run.
+#[inline(always)]
+fn advance_in_place<M: Initial>(
+    alloc: Global,
+    world: &mut World<M>,
+    ticket: &mut Ticket<M>,
+    thread: u8,
+    most: u32,
+    not_local: &mut Option<u8>,
+) -> (Progress, u32)
+    ensures { (workers : ℕ) → IsOwn workers ticket.old.worker (StepOf thread) → HasWorked workers ticket.old ticket.new }
+{
+    match step_in_place(world, ticket, thread, most, not_local) {
+        Ok(0) => (
+            Progress::of(ask(alloc, world, ticket, Event::Step(thread))),
+            0,
+        ),
+        Ok(done) => (Progress::MadeLocally, done),
+        Err(_) => (Progress::OutOfMemory, 0),
+    }
+}
+
 /// Advances a thread, under the lock that is held: by local instructions, the first few of them where it is and the others without the lock, or,
-/// where its next instruction is not local, by one step. The lock is held again at the end. Where the thread is the worker's own, the worker has
-/// done nothing else.
+/// where its next instruction is not local, by one step. Worker 0, after which an event of the collector comes, does all of them under the lock. The lock
+/// is held again at the end. Where the thread is the worker's own, the worker has done nothing else.
 // To lend a frame takes longer than a few instructions.
 fn advance<'s, M: Initial, R: Wait>(
     rt: &R,
@@ -163,21 +182,19 @@ fn advance<'s, M: Initial, R: Wait>(
 ) -> (Progress, MutexGuard<'s, World<M>>)
     ensures { (workers : ℕ) → IsOwn workers ticket.old.worker (StepOf thread) → HasWorked workers ticket.old ticket.new }
 {
-    let few = most_in_place(plan.workers);
-    let Ok(done) = step_in_place(&mut *world, ticket, thread, few, not_local) else {
-        return (Progress::OutOfMemory, world);
+    let few = if ticket.worker() == 0 {
+        MOST_LOCAL
+    } else {
+        FEW_LOCAL
     };
-    if done == 0 {
-        let answer = ask(alloc, &mut *world, ticket, Event::Step(thread));
-        return (Progress::of(answer), world);
-    }
-    if done < few || plan.workers == 1 || !world.machine().is_next_local(thread) {
-        return (Progress::Made, world);
+    let (progress, done) = advance_in_place(alloc, &mut *world, ticket, thread, few, not_local);
+    if done < FEW_LOCAL || few == MOST_LOCAL || !world.machine().is_next_local(thread) {
+        return (progress, world);
     }
     let Some(lent) = lend(&mut *world, thread) else {
-        return (Progress::Made, world);
+        return (progress, world);
     };
-    let most = most_on_loan(plan, ticket.worker(), served) - few;
+    let most = most_on_loan(plan, served) - FEW_LOCAL;
     run_apart(rt, shared, world, ticket, lent, thread, most)
 }
 
@@ -393,36 +410,148 @@ fn idle_workers(machine: &Machine, workers: u8) -> usize {
     idle
 }
 
-/// Does an event of the collector. Where the collector waits, a parked seat acknowledges for each worker that drives no live
-/// thread, and the next number is posted. That is for worker 0: another one does nothing. It also returns whether a seat was late.
-fn collect<M: Initial, E: TableName, R: Wait>(
-    rt: &R,
+/// What a worker asked for in a pass, after its acknowledgements.
+#[derive(Clone, Copy)]
+struct PassResults {
+    /// The result of the steps of its threads.
+    steps: Progress,
+    /// The answer to the event of the collector, where it asked for one.
+    collector: Option<Answer>,
+}
+
+impl PassResults {
+    /// Before anything is asked for.
+    fn none() -> PassResults {
+        PassResults {
+            steps: Progress::None,
+            collector: None,
+        }
+    }
+
+    /// Whether the threads and the collector made progress.
+    fn is_progress(&self) -> bool {
+        self.steps != Progress::None
+            && matches!(
+                self.collector,
+                Some(Answer::Did(Report::Worked | Report::CycleDone))
+            )
+    }
+
+    /// The result of the event of the collector.
+    fn collector_progress(&self) -> Progress {
+        match self.collector {
+            Some(answer) => Progress::of(answer),
+            None => Progress::None,
+        }
+    }
+}
+
+/// Does an event of the collector. That is for worker 0: another one does nothing.
+#[inline(always)]
+fn collect<M: Initial>(
     alloc: Global,
-    epochs: &Epochs,
-    parked: &Mutex<Parked<E>>,
     world: &mut World<M>,
     ticket: &mut Ticket<M>,
+) -> Option<Answer>
+    ensures { (workers : ℕ) → HasWorked workers ticket.old ticket.new }
+{
+    if ticket.worker() == 0 {
+        Some(ask(alloc, world, ticket, Event::Gc))
+    } else {
+        None
+    }
+}
+
+/// Advances the only thread under the lock that is held, and does an event of the collector, as worker 0.
+#[inline(always)]
+fn advance_and_collect<M: Initial>(
+    alloc: Global,
+    world: &mut World<M>,
+    ticket: &mut Ticket<M>,
+    not_local: &mut Option<u8>,
+) -> PassResults
+    ensures { ticket.old.worker ≡ 0 → HasWorked 1 ticket.old ticket.new }
+{
+    let (steps, _) = advance_in_place(alloc, world, ticket, 0, MOST_LOCAL, not_local);
+    let collector = if steps.lasts() {
+        collect(alloc, world, ticket)
+    } else {
+        None
+    };
+    PassResults { steps, collector }
+}
+
+/// Asks for what the passes of a worker alone ask for while there is one thread: it advances, and an event of the collector follows, again and again while
+/// both make progress and no thread is started or ends. It returns what the last pass asked for.
+fn make_row<M: Initial>(
+    alloc: Global,
+    world: &mut World<M>,
+    ticket: &mut Ticket<M>,
+    not_local: &mut Option<u8>,
+) -> PassResults
+    ensures { ticket.old.worker ≡ 0 → HasWorked 1 ticket.old ticket.new }
+{
+    let mut results = PassResults::none();
+    for _pass in 0..PASSES_IN_A_ROW {
+        results = advance_and_collect(alloc, world, ticket, not_local);
+        if !results.is_progress() || world.machine().started() != 1 || !world.machine().is_live(0) {
+            break;
+        }
+    }
+    results
+}
+
+/// Has each thread of a worker make a step, and, as worker 0, does an event of the collector. It stops where memory does not last.
+fn step_and_collect<'s, M: Initial, R: Wait>(
+    rt: &R,
+    alloc: Global,
+    shared: &'s Shared<M>,
+    mut world: MutexGuard<'s, World<M>>,
+    ticket: &mut Ticket<M>,
+    not_local: &mut Option<u8>,
+    plan: Plan,
+    found: PassSnapshot,
+) -> (PassResults, MutexGuard<'s, World<M>>)
+    requires some { 0 < plan.workers }
+    requires few { found.started ≤ MOST_THREADS }
+    ensures { HasWorked plan.workers ticket.old ticket.new }
+{
+    let is_alone = found.started == 1 && found.served == 1;
+    if plan.workers == 1 && plan.is_open && is_alone && ticket.worker() == 0 {
+        return (make_row(alloc, &mut *world, ticket, not_local), world);
+    }
+    let (steps, mut world) = step_each(rt, alloc, shared, world, ticket, not_local, plan, found);
+    let collector = if steps.lasts() {
+        collect(alloc, &mut *world, ticket)
+    } else {
+        None
+    };
+    (PassResults { steps, collector }, world)
+}
+
+/// Where the collector waits, has a parked seat acknowledge for each worker that drives no live thread, posts the next number, and returns whether a
+/// seat was late.
+fn post_if_waiting<M: Initial, E: TableName, R: Wait>(
+    rt: &R,
+    epochs: &Epochs,
+    parked: &Mutex<Parked<E>>,
+    world: &World<M>,
     herald: &mut Option<Herald>,
     workers: u8,
-) -> (Progress, bool)
+    results: &PassResults,
+) -> bool
     requires here { IsHeraldOf epochs.now herald.old }
     requires same { epochs.now.table ≡ E.table }
-    ensures herald { IsHeraldOf epochs.now herald.new }
-    ensures worked { (workers : ℕ) → HasWorked workers ticket.old ticket.new }
+    ensures { IsHeraldOf epochs.now herald.new }
 {
-    if ticket.worker() != 0 {
-        return (Progress::None, false);
+    if !matches!(results.collector, Some(Answer::Did(Report::Waiting))) {
+        return false;
     }
-    let answer = ask(alloc, world, ticket, Event::Gc);
-    let mut is_late = false;
-    if answer == Answer::Did(Report::Waiting) {
-        let idle = idle_workers(world.machine(), workers);
-        if idle > 0 {
-            parked.lock(rt).acknowledge(epochs, idle);
-        }
-        is_late = post(epochs, herald);
+    let idle = idle_workers(world.machine(), workers);
+    if idle > 0 {
+        parked.lock(rt).acknowledge(epochs, idle);
     }
-    (Progress::of(answer), is_late)
+    post(epochs, herald)
 }
 
 /// What a worker does in a pass, under the lock that is held: it polls and acknowledges, lets each of its threads make a step, and, as worker 0,
@@ -464,36 +593,24 @@ fn serve<'s, M: Initial, E: TableName, R: Wait>(
         herald,
         pace,
     } = worker;
-    let mut steps = Progress::None;
+    let mut results = PassResults::none();
     let mut is_late = false;
     if progress.lasts() {
-        let (came, held) = step_each(rt, alloc, shared, world, ticket, not_local, plan, found);
-        world = held;
-        steps = came;
-        progress = progress.then(came);
-    }
-    if progress.lasts() {
-        let (came, late) = collect(
-            rt,
-            alloc,
-            epochs,
-            parked,
-            &mut *world,
-            ticket,
-            herald,
-            plan.workers,
+        (results, world) = step_and_collect(
+            rt, alloc, shared, world, ticket, not_local, plan, found,
         );
-        is_late = late;
+        is_late = post_if_waiting(rt, epochs, parked, &*world, herald, plan.workers, &results);
+        let came = results.collector_progress();
         // Where the collector waits, worker 0 has posted.
         *polls = plan.workers > 1 || came == Progress::None;
-        progress = progress.then(came);
+        progress = progress.then(results.steps).then(came);
     }
     if !progress.lasts() {
         stop(&mut *world);
     }
     let passed = Passed {
         progress,
-        steps,
+        steps: results.steps,
         is_driving: found.served > 0,
         is_late,
         is_last: found.is_last,
