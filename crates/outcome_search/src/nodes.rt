@@ -34,14 +34,9 @@ pub struct Node {
     pub last: Move,
 }
 
-/// The position of a node in the order of the search: fewest preemptions first, then fewest steps. Nodes of the same rank are in the order of discovery.
-#[derive(Clone, Copy, PartialEq, Eq, PartialOrd, Ord)]
-pub struct Rank {
-    /// The number of preemptions of the schedule.
-    pub preemptions: u32,
-    /// The number of steps of the schedule.
-    pub steps: u32,
-}
+/// The position of a node in the order of the search: the number of preemptions of its schedule, then that of its steps. Nodes of the same rank are in the
+/// order of discovery.
+pub type Rank = (u32, u32);
 
 /// A node that is not visited: the next one after another node, by a step of a thread.
 #[derive(Clone, Copy)]
@@ -52,10 +47,11 @@ pub struct Candidate {
     pub thread: u8,
 }
 
-/// All nodes that were visited, and those that are not, by their ranks.
+/// All nodes that were visited, and a queue of those that are not, by rank and then by the order of discovery.
 pub struct Nodes {
     all: Vec<Node>,
-    queue: BTreeMap<Rank, Vec<Candidate>>,
+    queue: BTreeMap<(Rank, u64), Candidate>,
+    pushed: u64,
 }
 
 /// Each part is dropped.
@@ -64,6 +60,7 @@ impl Drop for Nodes {
         let Nodes {
             all: _all,
             queue: _queue,
+            pushed: _,
         } = self;
     }
 }
@@ -82,42 +79,28 @@ impl Nodes {
         Nodes {
             all: Vec::new(alloc),
             queue: BTreeMap::new(alloc),
+            pushed: 0,
         }
     }
 
-    /// The index of the node that is added next.
-    pub fn next(&self) -> Result<u32, NoMemory> {
-        next_index(self.all.len())
-    }
-
-    /// Adds a node that is visited.
-    pub fn add(&mut self, node: Node) -> Result<(), NoMemory> {
+    /// Adds a node that is visited, and returns its index.
+    pub fn add(&mut self, node: Node) -> Result<u32, NoMemory> {
+        let index = next_index(self.all.len())?;
         self.all.push(node)?;
-        Ok(())
+        Ok(index)
     }
 
     /// Adds a candidate to the queue, after those of the same rank.
-    pub fn push(
-        &mut self,
-        alloc: Global,
-        rank: Rank,
-        candidate: Candidate,
-    ) -> Result<(), NoMemory> {
-        if let Some(candidates) = self.queue.get_mut(&rank) {
-            candidates.push(candidate)?;
-            return Ok(());
-        }
-        let mut candidates = Vec::new(alloc);
-        candidates.push(candidate)?;
-        if self.queue.insert(rank, candidates).is_err() {
-            return Err(NoMemory);
-        }
+    pub fn push(&mut self, rank: Rank, candidate: Candidate) -> Result<(), NoMemory> {
+        self.pushed = self.pushed.saturating_add(1);
+        self.queue.insert((rank, self.pushed), candidate)?;
         Ok(())
     }
 
-    /// Takes the candidates of the first rank from the queue. None if the queue is empty.
-    pub fn pop(&mut self) -> Option<(Rank, Vec<Candidate>)> {
-        self.queue.pop_first()
+    /// Takes the first candidate from the queue, with its rank. None if the queue is empty.
+    pub fn pop(&mut self) -> Option<(Rank, Candidate)> {
+        let ((rank, _), candidate) = self.queue.pop_first()?;
+        Some((rank, candidate))
     }
 
     /// The node at an index.
@@ -138,7 +121,7 @@ impl Nodes {
         }
     }
 
-    /// The moves of the schedule of a node, the last one first.
+    /// The moves of the schedule of a node, in order.
     // Each move but the first one has a step at least.
     fn moves(&self, alloc: Global, index: u32) -> Result<Vec<Move>, NoMemory> {
         let mut moves = Vec::with_capacity(alloc, self.steps(index).saturating_add(1))?;
@@ -150,40 +133,24 @@ impl Nodes {
             moves.push(node.last)?;
             next = self.parent(node);
         }
+        moves.reverse();
         Ok(moves)
     }
 
-    /// The events that lead to the state of a node. A new thread runs its first local instructions right after it is started.
-    pub fn events(&self, alloc: Global, index: u32) -> Result<Vec<Event>, NoMemory> {
-        let moves = self.moves(alloc, index)?;
-        let mut events = Vec::with_capacity(alloc, self.steps(index))?;
-        push_events(&mut events, moves.as_slice())?;
-        Ok(events)
-    }
-
-    /// The schedule that is shown for a node. A new thread runs its first local instructions right before its first move, or at the end if it makes none, so
-    /// that a change of threads is one of the search.
+    /// The schedule of a node, whose events lead to its state. A new thread runs its first local instructions right before its first move, or at the end if it
+    /// makes none, so that a change of threads is one of the search.
     pub fn schedule(&self, alloc: Global, index: u32) -> Result<Vec<Event>, NoMemory> {
         let moves = self.moves(alloc, index)?;
         let mut events = Vec::with_capacity(alloc, self.steps(index))?;
-        push_schedule(&mut events, moves.as_slice())?;
+        push_moves(&mut events, &moves)?;
         Ok(events)
     }
 }
 
-/// Appends the events of moves, the last one first.
-fn push_events(events: &mut Vec<Event>, moves: &[Move]) -> Result<(), NoMemory> {
-    for step in moves.iter().rev() {
-        push_steps(events, step.thread, step.count)?;
-        push_steps(events, step.newest, step.more)?;
-    }
-    Ok(())
-}
-
-/// Appends the schedule that is shown for moves, the last one first.
-fn push_schedule(events: &mut Vec<Event>, moves: &[Move]) -> Result<(), NoMemory> {
+/// Appends the events of the moves of a schedule.
+fn push_moves(events: &mut Vec<Event>, moves: &[Move]) -> Result<(), NoMemory> {
     let mut pending = [0; MOST_THREADS];
-    for step in moves.iter().rev() {
+    for step in moves {
         push_pending(events, &mut pending, step.thread)?;
         push_steps(events, step.thread, step.count)?;
         if let Some(count) = pending.get_mut(usize::from(step.newest)) {

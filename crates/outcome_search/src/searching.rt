@@ -50,54 +50,11 @@ pub fn search<M: First>(
 ) -> Result<SearchResult, NoMemory>
     requires { IsLegal M.first.tree }
 {
-    let mut searching = start(replayer, alloc, bounds)?;
-    for _rank in 0..u64::MAX {
-        if searching.is_over() {
-            break;
-        }
-        let Some((rank, candidates)) = searching.nodes.pop() else {
-            break;
-        };
-        searching.visit_all(replayer, alloc, rank, &candidates)?;
-    }
+    let mut searching = Searching::new(alloc, bounds);
+    searching.start(replayer, alloc)?;
+    searching.visit_all(replayer, alloc)?;
     let paths = searching.paths(alloc)?;
     Ok(searching.into_result(paths))
-}
-
-/// A search after its first node, which is that of the initial state.
-fn start<M: First>(
-    replayer: &mut Replayer<M>,
-    alloc: Global,
-    bounds: Bounds,
-) -> Result<Searching, NoMemory>
-    requires { IsLegal M.first.tree }
-{
-    replayer.replay(alloc, &[])?;
-    let count = replayer.run_local(alloc, FIRST_THREAD)?;
-    let mut states = States::new(alloc);
-    let state = states.add(replayer.digest())?;
-    states.mark_found(state);
-    let mut searching = Searching {
-        bounds,
-        states,
-        nodes: Nodes::new(alloc),
-        found: Vec::new(alloc),
-        stop: None,
-    };
-    let node = Node {
-        state,
-        parent: None,
-        preemptions: 0,
-        steps: count,
-        last: Move {
-            thread: FIRST_THREAD,
-            newest: FIRST_THREAD,
-            count,
-            more: 0,
-        },
-    };
-    searching.visit(replayer, alloc, node)?;
-    Ok(searching)
 }
 
 /// Whether an outcome is of this kind, given the first outcome.
@@ -109,7 +66,69 @@ fn is_of_kind(goal: Goal, found: &FoundOutcome, first: &FoundOutcome) -> bool {
     }
 }
 
+/// The rank of the node after a node by a move, which may be a preemption.
+fn rank_after(node: Node, by: Move, preempts: bool) -> Rank {
+    let steps = node.steps.saturating_add(by.count).saturating_add(by.more);
+    (node.preemptions.saturating_add(u32::from(preempts)), steps)
+}
+
 impl Searching {
+    /// A search without states.
+    fn new(alloc: Global, bounds: Bounds) -> Searching {
+        Searching {
+            bounds,
+            states: States::new(alloc),
+            nodes: Nodes::new(alloc),
+            found: Vec::new(alloc),
+            stop: None,
+        }
+    }
+
+    /// Visits the first node, which is that of the initial state.
+    fn start<M: First>(&mut self, replayer: &mut Replayer<M>, alloc: Global) -> Result<(), NoMemory>
+        requires { IsLegal M.first.tree }
+    {
+        replayer.replay(alloc, &[])?;
+        let count = replayer.run_local(alloc, FIRST_THREAD)?;
+        let state = self.states.add(replayer.digest())?;
+        self.states.mark_found(state, usize::MAX);
+        let node = Node {
+            state,
+            parent: None,
+            preemptions: 0,
+            steps: count,
+            last: Move {
+                thread: FIRST_THREAD,
+                newest: FIRST_THREAD,
+                count,
+                more: 0,
+            },
+        };
+        self.visit(replayer, alloc, node)
+    }
+
+    /// Visits the nodes of the queue until the search is over.
+    fn visit_all<M: First>(
+        &mut self,
+        replayer: &mut Replayer<M>,
+        alloc: Global,
+    ) -> Result<(), NoMemory>
+        requires { IsLegal M.first.tree }
+    {
+        for _node in 0..u64::MAX {
+            if self.is_over() {
+                break;
+            }
+            let Some((rank, candidate)) = self.nodes.pop() else {
+                break;
+            };
+            if let Some(node) = self.node_of(rank, candidate) {
+                self.visit(replayer, alloc, node)?;
+            }
+        }
+        Ok(())
+    }
+
     /// The path of each state, by its index. None of them if the search stopped early, since the check needs all states.
     fn paths(&self, alloc: Global) -> Result<Vec<Path>, NoMemory> {
         if self.stop.is_some() {
@@ -143,36 +162,16 @@ impl Searching {
         }
     }
 
-    /// Visits the nodes of candidates of a rank, until the search is over.
-    fn visit_all<M: First>(
-        &mut self,
-        replayer: &mut Replayer<M>,
-        alloc: Global,
-        rank: Rank,
-        candidates: &[Candidate],
-    ) -> Result<(), NoMemory>
-        requires { IsLegal M.first.tree }
-    {
-        for candidate in candidates {
-            if self.is_over() {
-                break;
-            }
-            if let Some(node) = self.node_of(rank, *candidate) {
-                self.visit(replayer, alloc, node)?;
-            }
-        }
-        Ok(())
-    }
-
     /// The node of a candidate of a rank.
     fn node_of(&self, rank: Rank, candidate: Candidate) -> Option<Node> {
+        let (preemptions, steps) = rank;
         let parent = self.nodes.get(candidate.parent)?;
         let (state, last) = self.move_from(parent.state, candidate.thread)?;
         Some(Node {
             state,
             parent: Some(candidate.parent),
-            preemptions: rank.preemptions,
-            steps: rank.steps,
+            preemptions,
+            steps,
             last,
         })
     }
@@ -186,15 +185,14 @@ impl Searching {
     ) -> Result<(), NoMemory>
         requires { IsLegal M.first.tree }
     {
-        let index = self.nodes.next()?;
-        if !self.states.visit(node.state, node.last.thread, index) {
+        if self.states.is_visited(node.state, node.last.thread) {
             return Ok(());
         }
-        self.nodes.add(node)?;
-        if self.states.is_first_node(node.state, index) {
+        let index = self.nodes.add(node)?;
+        if self.states.visit(node.state, node.last.thread, index) {
             self.expand(replayer, alloc, node, index)?;
         }
-        self.push_successors(alloc, node, index)
+        self.push_successors(node, index)
     }
 
     /// Finds the edges of a state that is visited for the first time, the states to which they lead, and its outcome if no thread can make a step.
@@ -227,17 +225,16 @@ impl Searching {
     ) -> Result<(), NoMemory>
         requires { IsLegal M.first.tree }
     {
-        let events = self.nodes.events(alloc, index)?;
+        let events = self.nodes.schedule(alloc, index)?;
         let walks = Walks {
-            events: events.as_slice(),
             start: node.state,
             last: node.last.thread,
             most_states: self.bounds.states,
         };
-        walks.find_edges(&mut self.states, replayer, alloc)
+        walks.find_edges(&mut self.states, replayer, alloc, &events)
     }
 
-    /// Brings the machine to the state of a node, and adds its outcome.
+    /// Brings the machine to the state of a node, and adds its outcome, unless it is known.
     fn find_outcome<M: First>(
         &mut self,
         replayer: &mut Replayer<M>,
@@ -247,49 +244,35 @@ impl Searching {
     ) -> Result<(), NoMemory>
         requires { IsLegal M.first.tree }
     {
-        let events = self.nodes.events(alloc, index)?;
-        replayer.replay(alloc, events.as_slice())?;
-        self.add_outcome(replayer, alloc, node, index)
+        let events = self.nodes.schedule(alloc, index)?;
+        replayer.replay(alloc, &events)?;
+        if self.knows(replayer, alloc)? {
+            return Ok(());
+        }
+        let found = replayer.outcome(alloc, events, node.preemptions as usize)?;
+        self.add_outcome(found)
     }
 
     /// Marks the states to which the edges of a state lead as found. The search stops if there are too many, or if an edge leads out.
     fn find_successors(&mut self, state: u32) {
         for thread in 0..self.states.threads(state) {
             match self.states.edge(state, thread) {
-                Some(Edge::To { next, .. }) => self.find_state(next),
-                Some(Edge::Out(stop)) => self.stop = Some(stop),
+                Some(Edge::To { next, .. }) => {
+                    if !self.states.mark_found(next, self.bounds.states) {
+                        self.stop = Some(Stop::States);
+                    }
+                }
+                Some(Edge::OverBudget) => self.stop = Some(Stop::Budget(thread)),
+                Some(Edge::Refused) => self.stop = Some(Stop::Refusal(thread)),
                 _ => {}
             }
         }
     }
 
-    /// Marks a state as found. The search stops if there would be too many.
-    fn find_state(&mut self, state: u32) {
-        if self.states.is_found(state) {
-            return;
-        }
-        if self.states.found() >= self.bounds.states {
-            self.stop = Some(Stop::States);
-        } else {
-            self.states.mark_found(state);
-        }
-    }
-
-    /// Adds the outcome of the machine's state, unless it is known.
-    fn add_outcome<M: First>(
-        &mut self,
-        replayer: &Replayer<M>,
-        alloc: Global,
-        node: Node,
-        index: u32,
-    ) -> Result<(), NoMemory> {
-        if self.knows(replayer, alloc)? {
-            return Ok(());
-        }
-        let events = self.nodes.schedule(alloc, index)?;
-        let found = replayer.outcome(alloc, events, node.preemptions as usize)?;
+    /// Adds an outcome, at which the search may stop.
+    fn add_outcome(&mut self, found: FoundOutcome) -> Result<(), NoMemory> {
+        self.stop = self.stop_at(&found).or(self.stop);
         self.found.push(found)?;
-        self.stop_at_goal();
         Ok(())
     }
 
@@ -303,52 +286,35 @@ impl Searching {
         Ok(false)
     }
 
-    /// The search stops if an outcome of the kind that it looks for is found.
-    fn stop_at_goal(&mut self) {
-        if let Some(goal) = self.bounds.until {
-            if self.has_reached(goal) {
-                self.stop = Some(Stop::Goal(goal));
-            }
+    /// Why the search stops at an outcome that is found next. None if it does not.
+    fn stop_at(&self, found: &FoundOutcome) -> Option<Stop> {
+        let goal = self.bounds.until?;
+        let first = self.found.first().unwrap_or(found);
+        if is_of_kind(goal, found, first) {
+            Some(Stop::Goal(goal))
+        } else {
+            None
         }
-    }
-
-    /// Whether an outcome of this kind is found.
-    fn has_reached(&self, goal: Goal) -> bool {
-        let Some(first) = self.found.first() else {
-            return false;
-        };
-        for found in &self.found {
-            if is_of_kind(goal, found, first) {
-                return true;
-            }
-        }
-        false
     }
 
     /// Adds the nodes after a node whose state is expanded, except those that would not be visited.
-    fn push_successors(&mut self, alloc: Global, node: Node, index: u32) -> Result<(), NoMemory> {
+    fn push_successors(&mut self, node: Node, index: u32) -> Result<(), NoMemory> {
         let last = node.last.thread;
         let can_continue = self.move_from(node.state, last).is_some();
         for thread in 0..self.states.threads(node.state) {
             let Some((next, by)) = self.move_from(node.state, thread) else {
                 continue;
             };
-            let preempts = can_continue && thread != last;
-            let preemptions = node.preemptions.saturating_add(u32::from(preempts));
-            if self.is_beyond(preemptions) {
+            let rank = rank_after(node, by, can_continue && thread != last);
+            if self.is_beyond(rank) {
                 self.stop = self.stop.or(Some(Stop::Preemptions));
-                continue;
+            } else if !self.states.is_visited(next, thread) {
+                let candidate = Candidate {
+                    parent: index,
+                    thread,
+                };
+                self.nodes.push(rank, candidate)?;
             }
-            if self.states.is_visited(next, thread) {
-                continue;
-            }
-            let steps = node.steps.saturating_add(by.count).saturating_add(by.more);
-            let candidate = Candidate {
-                parent: index,
-                thread,
-            };
-            self.nodes
-                .push(alloc, Rank { preemptions, steps }, candidate)?;
         }
         Ok(())
     }
@@ -361,8 +327,9 @@ impl Searching {
         }
     }
 
-    /// Whether a schedule has more preemptions than the bound.
-    fn is_beyond(&self, preemptions: u32) -> bool {
+    /// Whether a schedule of a rank has more preemptions than the bound.
+    fn is_beyond(&self, rank: Rank) -> bool {
+        let (preemptions, _) = rank;
         match self.bounds.preemptions {
             Some(most) => preemptions as usize > most,
             None => false,

@@ -1,6 +1,5 @@
 //! The states of a search, by the digest of each.
 
-use crate::bounds::Stop;
 use crate::nodes::{Move, Nodes, next_index};
 use cil_model::limits::MOST_THREADS;
 use cil_model::memory::NoMemory;
@@ -17,25 +16,21 @@ pub enum Edge {
     Ended,
     /// The next step of the thread is blocked.
     Blocked,
-    /// The search stops at this step.
-    Out(Stop),
+    /// The thread uses up its budget by this step.
+    OverBudget,
+    /// The thread is refused memory for an object at this step.
+    Refused,
     /// The step and local instructions lead to another state.
     To { next: u32, by: Move },
 }
 
-/// Where the edges of a state are among all edges.
-#[derive(Clone, Copy)]
-struct Edges {
-    first: u32,
-    threads: u8,
-}
-
-/// A state: the first node that was visited with it, its edges, and the threads after whose moves it was visited. It is found once it is the initial
-/// state or an edge of a visited state leads to it.
+/// A state: the first node that was visited with it, the index of its first edge, the number of its threads, which is 0 until it has edges, and the threads after
+/// whose moves it was visited. It is found once it is the initial state or an edge of a visited state leads to it.
 #[derive(Clone, Copy)]
 struct State {
     node: Option<u32>,
-    edges: Option<Edges>,
+    first_edge: u32,
+    threads: u8,
     is_found: bool,
     visited: [bool; MOST_THREADS],
 }
@@ -91,7 +86,8 @@ impl States {
         let index = next_index(self.all.len())?;
         self.all.push(State {
             node: None,
-            edges: None,
+            first_edge: 0,
+            threads: 0,
             is_found: false,
             visited: [false; MOST_THREADS],
         })?;
@@ -101,84 +97,75 @@ impl States {
         Ok(index)
     }
 
-    /// Whether a state is found; true if there is no such state.
-    pub fn is_found(&self, index: u32) -> bool {
-        match self.all.get(index as usize) {
-            Some(state) => state.is_found,
-            None => true,
+    /// Marks a state as found. Returns false, and changes nothing, if it is not found yet and `most` states are.
+    pub fn mark_found(&mut self, index: u32, most: usize) -> bool {
+        let Some(state) = self.all.get_mut(index as usize) else {
+            return true;
+        };
+        if state.is_found {
+            return true;
         }
+        if self.found >= most {
+            return false;
+        }
+        state.is_found = true;
+        self.found = self.found.saturating_add(1);
+        true
     }
 
-    /// Marks a state as found that is not found yet.
-    pub fn mark_found(&mut self, index: u32) {
-        if let Some(state) = self.all.get_mut(index as usize) {
-            state.is_found = true;
-            self.found = self.found.saturating_add(1);
-        }
-    }
-
-    /// Marks a state as visited by a node after a move of a thread. False if it was visited after a move of this thread before.
+    /// Marks a state as visited by a node after a move of a thread. Returns whether it was not visited before.
     pub fn visit(&mut self, index: u32, thread: u8, node: u32) -> bool {
         let Some(state) = self.all.get_mut(index as usize) else {
             return false;
         };
+        if let Some(visited) = state.visited.get_mut(usize::from(thread)) {
+            *visited = true;
+        }
+        let is_first = state.node.is_none();
         state.node = state.node.or(Some(node));
-        let Some(visited) = state.visited.get_mut(usize::from(thread)) else {
-            return false;
-        };
-        let is_first = !*visited;
-        *visited = true;
         is_first
     }
 
-    /// Whether a node is the first one that was visited with its state.
-    pub fn is_first_node(&self, index: u32, node: u32) -> bool {
-        match self.all.get(index as usize) {
-            Some(state) => state.node == Some(node),
-            None => false,
-        }
-    }
-
-    /// Whether a state was visited after a move of a thread.
+    /// Whether a state was visited after a move of a thread; true if there is no such state or thread.
     pub fn is_visited(&self, index: u32, thread: u8) -> bool {
         match self.all.get(index as usize) {
             Some(state) => state
                 .visited
                 .get(usize::from(thread))
                 .copied()
-                .unwrap_or(false),
-            None => false,
+                .unwrap_or(true),
+            None => true,
         }
     }
 
-    /// Where the edges of a state are. None if it has none yet.
-    fn edges_of(&self, index: u32) -> Option<Edges> {
-        self.all.get(index as usize)?.edges
+    /// The number of threads of a state with edges; 0 for any other.
+    pub fn threads(&self, index: u32) -> u8 {
+        match self.all.get(index as usize) {
+            Some(state) => state.threads,
+            None => 0,
+        }
     }
 
-    /// Whether a state has edges, known or not.
-    pub fn has_edges(&self, index: u32) -> bool {
-        self.edges_of(index).is_some()
-    }
-
-    /// Stores the edges of a state, one for each thread.
-    pub fn add_edges(&mut self, index: u32, edges: &[Edge]) -> Result<(), NoMemory> {
-        let first = next_index(self.edges.len())?;
-        let threads = u8::try_from(edges.len()).unwrap_or(u8::MAX);
-        self.edges.extend_from_slice(edges)?;
+    /// Adds the edge of the next thread from a state, of which no other state gets edges in between.
+    pub fn add_edge(&mut self, index: u32, edge: Edge) -> Result<(), NoMemory> {
+        let next = next_index(self.edges.len())?;
+        self.edges.push(edge)?;
         if let Some(state) = self.all.get_mut(index as usize) {
-            state.edges = Some(Edges { first, threads });
+            if state.threads == 0 {
+                state.first_edge = next;
+            }
+            state.threads = state.threads.saturating_add(1);
         }
         Ok(())
     }
 
     /// The index of the edge of a thread from a state among all edges. None if the state has no edges, or there is no such thread.
     fn edge_index(&self, index: u32, thread: u8) -> Option<usize> {
-        let edges = self.edges_of(index)?;
-        if thread >= edges.threads {
+        let state = self.all.get(index as usize)?;
+        if thread >= state.threads {
             return None;
         }
-        Some((edges.first as usize).saturating_add(usize::from(thread)))
+        Some((state.first_edge as usize).saturating_add(usize::from(thread)))
     }
 
     /// The edge of a thread from a state. None if the state has no edges, or there is no such thread.
@@ -193,14 +180,6 @@ impl States {
         };
         if let Some(old) = self.edges.get_mut(index) {
             *old = edge;
-        }
-    }
-
-    /// The number of threads of a state with edges; 0 for any other.
-    pub fn threads(&self, index: u32) -> u8 {
-        match self.edges_of(index) {
-            Some(edges) => edges.threads,
-            None => 0,
         }
     }
 
@@ -227,7 +206,7 @@ impl States {
 
     /// Whether a state has edges, and all of them are known.
     pub fn is_expanded(&self, index: u32) -> bool {
-        self.has_edges(index) && self.unknown_edge(index, 0).is_none()
+        self.threads(index) > 0 && self.unknown_edge(index, 0).is_none()
     }
 
     /// Whether no thread can make a step from a state with edges.
@@ -244,20 +223,31 @@ impl States {
     /// The path of each state, by its index; it has no events if the state was not visited.
     pub fn paths(&self, alloc: Global, nodes: &Nodes) -> Result<Vec<Path>, NoMemory> {
         let mut paths = Vec::with_capacity(alloc, self.all.len())?;
-        for state in &self.all {
-            let events = match state.node {
-                Some(node) => nodes.events(alloc, node)?,
-                None => Vec::new(alloc),
-            };
-            paths.push(Path {
-                events,
-                incoming: Vec::new(alloc),
-            })?;
-        }
-        for index in 0..self.all.len() {
-            self.add_incoming(&mut paths, next_index(index)?)?;
-        }
+        self.add_paths(alloc, nodes, &mut paths)?;
+        self.add_all_incoming(&mut paths)?;
         Ok(paths)
+    }
+
+    /// Adds the path of each state, without steps that lead to it.
+    fn add_paths(
+        &self,
+        alloc: Global,
+        nodes: &Nodes,
+        paths: &mut Vec<Path>,
+    ) -> Result<(), NoMemory> {
+        for state in &self.all {
+            let path = path_to(alloc, nodes, state.node)?;
+            paths.push(path)?;
+        }
+        Ok(())
+    }
+
+    /// Adds each step from each state to the path of the state to which it leads.
+    fn add_all_incoming(&self, paths: &mut [Path]) -> Result<(), NoMemory> {
+        for index in 0..next_index(self.all.len())? {
+            self.add_incoming(paths, index)?;
+        }
+        Ok(())
     }
 
     /// Adds each step from a state to the path of the state to which it leads.
@@ -277,4 +267,16 @@ impl States {
         }
         Ok(())
     }
+}
+
+/// The path by the schedule of a node, without steps that lead to it; one without events if there is no node.
+fn path_to(alloc: Global, nodes: &Nodes, node: Option<u32>) -> Result<Path, NoMemory> {
+    let events = match node {
+        Some(node) => nodes.schedule(alloc, node)?,
+        None => Vec::new(alloc),
+    };
+    Ok(Path {
+        events,
+        incoming: Vec::new(alloc),
+    })
 }

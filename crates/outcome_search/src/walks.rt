@@ -2,7 +2,6 @@
 
 ghost use Rattle.exploration.specs.simulation.cil_model.Legality.{IsLegal};
 
-use crate::bounds::Stop;
 use crate::nodes::Move;
 use crate::states::{Edge, States};
 use cil_model::events::Event;
@@ -17,9 +16,7 @@ const MOST_MOVES: usize = 64;
 
 /// Walks from a state: each replays the events that lead to it, and then makes moves.
 #[derive(Clone, Copy)]
-pub struct Walks<'a> {
-    /// The events that lead to the state.
-    pub events: &'a [Event],
+pub struct Walks {
     /// The state.
     pub start: u32,
     /// The thread that made the last move before it.
@@ -28,49 +25,36 @@ pub struct Walks<'a> {
     pub most_states: usize,
 }
 
-/// The result of a step of a thread and of the local instructions after it.
-#[derive(Clone, Copy)]
-enum Lead {
-    /// The thread used up its budget or was refused memory.
-    Out(Stop),
-    /// A move, and the digest of the state after it.
-    To { by: Move, digest: u64 },
-}
-
-/// The result of a step of a thread that can make one, in the state of the machine.
-fn lead_of<M: First>(
+/// The move of a thread that has made its first step, after which it and the newest thread run local instructions.
+fn finish_move<M: First>(
     replayer: &mut Replayer<M>,
     alloc: Global,
     thread: u8,
-) -> Result<Lead, NoMemory>
+) -> Result<Move, NoMemory>
     requires { IsLegal M.first.tree }
 {
-    let report = replayer.step(alloc, thread)?;
-    if !is_ordinary(report) {
-        return Ok(Lead::Out(stop_of(report, thread)));
-    }
     let count = replayer.run_local(alloc, thread)?;
     let newest = replayer.started().saturating_sub(1) as u8;
     let more = replayer.run_local(alloc, newest)?;
-    let by = Move {
+    Ok(Move {
         thread,
         newest,
         count: count.saturating_add(1),
         more,
-    };
-    Ok(Lead::To {
-        by,
-        digest: replayer.digest(),
     })
 }
 
-/// The edges of the state of the machine, as far as they are known before a step is made.
-fn first_edges<M: First>(replayer: &Replayer<M>) -> [Edge; MOST_THREADS] {
-    let mut edges = [Edge::Ended; MOST_THREADS];
-    for (thread, edge) in edges.iter_mut().enumerate() {
-        *edge = first_edge(replayer, number_of(thread));
+/// Adds the edges of the state of the machine, as far as they are known before a step is made.
+fn add_edges<M: First>(
+    states: &mut States,
+    state: u32,
+    replayer: &Replayer<M>,
+) -> Result<(), NoMemory> {
+    let count = replayer.started();
+    for thread in 0..count {
+        states.add_edge(state, first_edge(replayer, thread as u8))?;
     }
-    edges
+    Ok(())
 }
 
 /// The edge of a thread, as far as it is known before a step is made.
@@ -84,31 +68,27 @@ fn first_edge<M: First>(replayer: &Replayer<M>, thread: u8) -> Edge {
     }
 }
 
-/// The number of a thread, which is at most 255.
-fn number_of(thread: usize) -> u8 {
-    u8::try_from(thread).unwrap_or(u8::MAX)
-}
-
-/// Why a search stops at a report that is not ordinary.
-fn stop_of(report: Report, thread: u8) -> Stop {
+/// The edge of a thread whose step has a report that is not ordinary.
+fn last_edge(report: Report) -> Edge {
     match report {
-        Report::Ended(End::Budget) => Stop::Budget(thread),
-        _ => Stop::Refusal(thread),
+        Report::Ended(End::Budget) => Edge::OverBudget,
+        _ => Edge::Refused,
     }
 }
 
-impl<'a> Walks<'a> {
-    /// Finds all edges of the state, and edges of other states.
+impl Walks {
+    /// Finds all edges of the state, to which these events lead, and edges of other states.
     pub fn find_edges<M: First>(
         self,
         states: &mut States,
         replayer: &mut Replayer<M>,
         alloc: Global,
+        events: &[Event],
     ) -> Result<(), NoMemory>
         requires { IsLegal M.first.tree }
     {
         for _thread in 0..MOST_THREADS {
-            replayer.replay(alloc, self.events)?;
+            replayer.replay(alloc, events)?;
             self.walk(states, replayer, alloc)?;
             if states.is_expanded(self.start) {
                 break;
@@ -130,16 +110,13 @@ impl<'a> Walks<'a> {
         let mut state = self.start;
         let mut last = self.last;
         for _move in 0..MOST_MOVES {
-            if !states.has_edges(state) {
-                let edges = first_edges(replayer);
-                let threads = replayer.started();
-                states.add_edges(state, &edges[..threads])?;
+            if states.threads(state) == 0 {
+                add_edges(states, state, replayer)?;
             }
             let Some(thread) = states.unknown_edge(state, last) else {
                 break;
             };
-            let lead = lead_of(replayer, alloc, thread)?;
-            let Some(next) = self.add_edge(states, state, thread, lead)? else {
+            let Some(next) = self.make_move(states, replayer, alloc, state, thread)? else {
                 break;
             };
             state = next;
@@ -148,31 +125,32 @@ impl<'a> Walks<'a> {
         Ok(())
     }
 
-    /// Stores where a thread leads from a state, and returns the next state. None if it leads out, or if there are states enough. The remaining steps
-    /// of a later state of a walk are not those of its node: that a move leads out is found once such a state is visited.
-    fn add_edge(
+    /// Makes a move of a thread from a state, which is that of the machine, stores its edge, and returns the next state. None if it leads out, or if there are
+    /// states enough. The remaining steps of a later state of a walk are not those of its node: that a move leads out is found once such a state is visited.
+    fn make_move<M: First>(
         self,
         states: &mut States,
+        replayer: &mut Replayer<M>,
+        alloc: Global,
         state: u32,
         thread: u8,
-        lead: Lead,
-    ) -> Result<Option<u32>, NoMemory> {
+    ) -> Result<Option<u32>, NoMemory>
+        requires { IsLegal M.first.tree }
+    {
         let is_first = state == self.start;
-        match lead {
-            Lead::Out(stop) => {
-                if is_first {
-                    states.set_edge(state, thread, Edge::Out(stop));
-                }
-                Ok(None)
+        let report = replayer.step(alloc, thread)?;
+        if !is_ordinary(report) {
+            if is_first {
+                states.set_edge(state, thread, last_edge(report));
             }
-            Lead::To { by, digest } => {
-                let Some(next) = self.state_of(states, digest, is_first)? else {
-                    return Ok(None);
-                };
-                states.set_edge(state, thread, Edge::To { next, by });
-                Ok(Some(next))
-            }
+            return Ok(None);
         }
+        let by = finish_move(replayer, alloc, thread)?;
+        let next = self.state_of(states, replayer.digest(), is_first)?;
+        if let Some(next) = next {
+            states.set_edge(state, thread, Edge::To { next, by });
+        }
+        Ok(next)
     }
 
     /// The index of the state with a digest, which is added if there is none. None if there are states enough, unless it is for the first move of a walk.
