@@ -17,10 +17,7 @@ impl<'a> fmt::Display for CountText<'a> {
 
     fn fmt<W: fmt::Write>(&self, f: &mut fmt::Formatter<W>) -> fmt::Result {
         let CountText { number, noun } = *self;
-        if number == 1 {
-            write!(f, "{number} {noun}")
-        } else {
-            write!(f, "{number} {noun}s")
-        }
+        let ending = if number == 1 { "" } else { "s" };
+        write!(f, "{number} {noun}{ending}")
     }
 }

@@ -26,7 +26,12 @@ pub(crate) fn add_ends(text: &mut String, ends: &[Option<End>]) -> Result<(), No
 fn are_all_done(ends: &[Option<End>]) -> bool
     ensures { result ≡ list_all is_done ends.now }
 {
-    ends.iter().all(|end| *end == Some(End::Done))
+    for end in ends {
+        if *end != Some(End::Done) {
+            return false;
+        }
+    }
+    true
 }
 
 /// Appends the numbers of the blocked threads, and returns whether there are any.
