@@ -43,7 +43,7 @@ pub(crate) struct Worker<M: Initial> {
     pub seat: Option<Seat>,
     /// The number that it last acknowledged, 0 before it did.
     pub acknowledged: u64,
-    /// Whether a newer number may be posted. A worker alone knows: nobody else posts.
+    /// Whether a newer number may be posted. Worker 0 knows: nobody else posts.
     pub polls: bool,
     /// The thread, if one is known, whose next instruction is not local.
     pub not_local: Option<u8>,
@@ -601,8 +601,8 @@ fn serve<'s, M: Initial, E: TableName, R: Wait>(
         );
         is_late = post_if_waiting(rt, epochs, parked, &*world, herald, plan.workers, &results);
         let came = results.collector_progress();
-        // Where the collector waits, worker 0 has posted.
-        *polls = plan.workers > 1 || came == Progress::None;
+        // Worker 0 alone posts, where the collector waits and no seat is late.
+        *polls = ticket.worker() != 0 || (came == Progress::None && !is_late);
         progress = progress.then(results.steps).then(came);
     }
     if !progress.lasts() {

@@ -215,7 +215,7 @@ fn run_pool<
 ///
 /// Of n tickets, the worker of number k drives the threads t for which k is left when t is divided by n; its own threads in a pass are those that are live as
 /// the pass begins. A pass is reported to `gate`, which may leave some out where it is open. Then the worker polls its seat, if it may be that a number was
-/// posted (a worker alone knows); where it is newer than the last one that it acknowledged, it does an `Ack` of each of its own threads and acknowledges. It
+/// posted (worker 0 knows); where it is newer than the last one that it acknowledged, it does an `Ack` of each of its own threads and acknowledges. It
 /// does a `Step` of each of them, in the order of their numbers. Worker 0 then does one `Gc`; where that returned `Waiting`, it acknowledges for the workers
 /// that drive no live thread, and posts the next number. A worker that runs out of memory sets the stop mark and ends; so does this function where a thread
 /// can't be started, and makes that worker's one pass itself.
