@@ -147,7 +147,7 @@ impl Searching {
             stop,
         } = self;
         SearchResult {
-            states: states.found(),
+            states: states.found_count(),
             paths,
             found,
             stop,

@@ -67,7 +67,7 @@ impl States {
     }
 
     /// The number of states that are found.
-    pub fn found(&self) -> usize {
+    pub fn found_count(&self) -> usize {
         self.found
     }
 
