@@ -17,14 +17,14 @@ const MOST_NAMED: usize = 8;
 
 /// A class that is met again among its bases, by its name and its number among all classes.
 #[derive(Clone, Copy)]
-pub struct OwnBase<'a> {
+pub struct CyclicBase<'a> {
     pub class: ClassKey<'a>,
     pub number: usize,
     pub names: &'a NameTables<'a>,
 }
 
 /// Its bases are named in their order, until it is met again; no more than the first eight of them.
-impl fmt::Display for OwnBase<'_> {
+impl fmt::Display for CyclicBase<'_> {
     fn fmt<W: fmt::Write>(&self, f: &mut fmt::Formatter<W>) -> fmt::Result {
         let class = ClassText(self.class);
         write_two(
@@ -39,7 +39,7 @@ impl fmt::Display for OwnBase<'_> {
     }
 }
 
-impl Evidence for OwnBase<'_> {}
+impl Evidence for CyclicBase<'_> {}
 
 /// The base of a class, with its name.
 fn base_of<'a>(names: &NameTables<'a>, class: ClassId) -> Option<(ClassId, ClassKey<'a>)> {
@@ -47,16 +47,16 @@ fn base_of<'a>(names: &NameTables<'a>, class: ClassId) -> Option<(ClassId, Class
     Some((base, class_key(names, base)?))
 }
 
-fn write_bases<W: fmt::Write>(f: &mut fmt::Formatter<W>, own_base: &OwnBase) -> fmt::Result {
-    let mut class = ClassId::new(own_base.number);
+fn write_bases<W: fmt::Write>(f: &mut fmt::Formatter<W>, cyclic_base: &CyclicBase) -> fmt::Result {
+    let mut class = ClassId::new(cyclic_base.number);
     for _ in 0..MOST_NAMED {
-        let Some((base, key)) = base_of(own_base.names, class) else {
+        let Some((base, key)) = base_of(cyclic_base.names, class) else {
             break;
         };
         class = base;
         let text = ClassText(key);
         write_one(f, " extends `", &text, "`")?;
-        if key == own_base.class {
+        if key == cyclic_base.class {
             return Ok(());
         }
     }
@@ -64,17 +64,20 @@ fn write_bases<W: fmt::Write>(f: &mut fmt::Formatter<W>, own_base: &OwnBase) -> 
 }
 
 /// A class that is its own base. None where the tree has no such class.
-pub(crate) fn own_base<'a>(names: &'a NameTables<'a>, class: usize) -> Option<Located<OwnBase<'a>>>
+pub(crate) fn cyclic_base<'a>(
+    names: &'a NameTables<'a>,
+    class: usize,
+) -> Option<Located<CyclicBase<'a>>>
     ensures { IfSome result (λ found. IfSome found.1.location (IsOfClass class)) }
 {
     let declared = names.classes.tree.classes.as_slice().get(class)?;
     let key = ClassKey::of_source(declared);
-    let own_base = OwnBase {
+    let cyclic_base = CyclicBase {
         class: key,
         number: names.classes.id(key)?.number(),
         names,
     };
     let part = ClassPart::Base;
     let location = Location::InClass { class, part };
-    Some((own_base, Sites::at(location)))
+    Some((cyclic_base, Sites::at(location)))
 }

@@ -21,7 +21,7 @@ pub struct NotImplemented<'a> {
     pub interface: ClassKey<'a>,
     pub method: MethodKey<'a>,
     /// The nearest class that has such a method, which is not virtual.
-    pub plain_in: Option<ClassKey<'a>>,
+    pub nonvirtual_in: Option<ClassKey<'a>>,
 }
 
 impl fmt::Display for NotImplemented<'_> {
@@ -33,11 +33,11 @@ impl fmt::Display for NotImplemented<'_> {
             f,
             "the class `{class}` implements `{interface}`, but has no virtual method `{method}`, declared or inherited"
         )?;
-        match self.plain_in {
+        match self.nonvirtual_in {
             None => Ok(()),
-            Some(plain) => {
-                let plain = ClassText(plain);
-                write!(f, ": that of `{plain}` is not virtual")
+            Some(owner) => {
+                let owner = ClassText(owner);
+                write!(f, ": that of `{owner}` is not virtual")
             }
         }
     }
@@ -78,7 +78,7 @@ pub(crate) fn not_implemented<'a>(
         class: &declared.name,
         interface,
         method,
-        plain_in: owner_along(names, declared, method),
+        nonvirtual_in: owner_along(names, declared, method),
     };
     let part = ClassPart::Interface(listed.interface);
     let location = Location::InClass { class, part };

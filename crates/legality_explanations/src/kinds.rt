@@ -36,7 +36,7 @@ pub enum KindMismatch<'a> {
         hidden_by: Option<ClassKey<'a>>,
     },
     /// A virtual method without newslot over one that is not virtual.
-    OverPlain {
+    OverNonvirtual {
         class: &'a Text,
         method: MethodKey<'a>,
         owner: ClassKey<'a>,
@@ -76,7 +76,7 @@ impl fmt::Display for KindMismatch<'_> {
                 method,
                 hidden_by,
             } => write_left_open(f, *class, *owner, *method, *hidden_by),
-            KindMismatch::OverPlain {
+            KindMismatch::OverNonvirtual {
                 class,
                 method,
                 owner,
@@ -240,14 +240,14 @@ fn is_abstract(class: usize, declared: &Class, method: usize) -> Option<Located<
 }
 
 /// A method that would override one of a base.
-fn over_plain<'a>(
+fn over_nonvirtual<'a>(
     names: &NameTables<'a>,
     class: &'a Class,
     named: (MethodKey<'a>, Location),
     base: ClassId,
 ) -> Option<Located<KindMismatch<'a>>> {
     let (method, location) = named;
-    let kind_mismatch = KindMismatch::OverPlain {
+    let kind_mismatch = KindMismatch::OverNonvirtual {
         class: &class.name,
         method,
         owner: class_key(names, base)?,
@@ -267,8 +267,8 @@ pub(crate) fn kind_mismatch_of<'a>(
         KindFault::InInterface { method } => in_interface(class, declared, method),
         KindFault::Abstract { method } => is_abstract(class, declared, method),
         KindFault::LeftOpen { open } => left_open(names, declared, open),
-        KindFault::OverPlain { method, base } => {
-            over_plain(
+        KindFault::OverNonvirtual { method, base } => {
+            over_nonvirtual(
                 names,
                 declared,
                 named_method(class, declared, method)?,

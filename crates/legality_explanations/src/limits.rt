@@ -1,4 +1,4 @@
-//! Limits that are passed (number 207), all of which are this profile's.
+//! Limits that are exceeded (number 207), all of which are this profile's.
 
 use crate::references::{location_of, type_at};
 use crate::rule_evidence::{Evidence, Located};
@@ -71,12 +71,12 @@ const TARGETS: Limit = Limit {
     most: MOST_TARGETS,
 };
 
-/// A limit that is passed, with the number that passes it.
+/// A limit that is exceeded, with the number that exceeds it.
 #[derive(Clone, Copy)]
-pub enum Passed<'a> {
-    Counted(Limit, usize),
+pub enum ExceededLimit<'a> {
+    Count(Limit, usize),
     /// Here stands the first that is too many.
-    Beyond(Limit),
+    Excess(Limit),
     /// Of an object of this class.
     InstanceFields(&'a Text, usize),
     MaxStack(i64),
@@ -84,10 +84,10 @@ pub enum Passed<'a> {
     Brackets(u32),
 }
 
-impl fmt::Display for Passed<'_> {
+impl fmt::Display for ExceededLimit<'_> {
     fn fmt<W: fmt::Write>(&self, f: &mut fmt::Formatter<W>) -> fmt::Result {
         match *self {
-            Passed::Counted(limit, count) => {
+            ExceededLimit::Count(limit, count) => {
                 let Limit {
                     owner,
                     things,
@@ -95,7 +95,7 @@ impl fmt::Display for Passed<'_> {
                 } = limit;
                 write!(f, "{owner} has {count} {things}, more than {most}")
             }
-            Passed::Beyond(limit) => {
+            ExceededLimit::Excess(limit) => {
                 let Limit {
                     owner,
                     things,
@@ -103,17 +103,17 @@ impl fmt::Display for Passed<'_> {
                 } = limit;
                 write!(f, "{owner} has more than {most} {things}")
             }
-            Passed::InstanceFields(class, count) => {
+            ExceededLimit::InstanceFields(class, count) => {
                 let class = class.as_str();
                 write!(
                     f,
                     "an object of `{class}` has {count} fields with those of its bases, more than {MOST_INSTANCE_FIELDS}"
                 )
             }
-            Passed::MaxStack(height) => {
+            ExceededLimit::MaxStack(height) => {
                 write!(f, "`.maxstack` is {height}, expected 0 to {MOST_STACK}")
             }
-            Passed::Brackets(count) => {
+            ExceededLimit::Brackets(count) => {
                 write!(
                     f,
                     "a type has {count} pairs of brackets, more than {MOST_BRACKETS}"
@@ -123,34 +123,41 @@ impl fmt::Display for Passed<'_> {
     }
 }
 
-impl Evidence for Passed<'_> {}
+impl Evidence for ExceededLimit<'_> {}
 
-fn located_at(passed: Passed<'_>, location: Location) -> Option<Located<Passed<'_>>> {
-    Some((passed, Sites::at(location)))
+fn located_at(
+    evidence: ExceededLimit<'_>,
+    location: Location,
+) -> Option<Located<ExceededLimit<'_>>> {
+    Some((evidence, Sites::at(location)))
 }
 
 // ---- one method
 
 /// The array that `newarr` makes has one more pair of brackets than the type that stands there.
-fn passed_by_instruction(instruction: &Instruction) -> Option<Passed<'_>> {
+fn exceeded_by_instruction(instruction: &Instruction) -> Option<ExceededLimit<'_>> {
     match instruction {
-        Instruction::Switch(labels) => Some(Passed::Counted(TARGETS, labels.as_slice().len())),
+        Instruction::Switch(labels) => Some(ExceededLimit::Count(TARGETS, labels.as_slice().len())),
         Instruction::NewArray(declared) => {
-            Some(Passed::Brackets(declared.brackets.saturating_add(1)))
+            Some(ExceededLimit::Brackets(declared.brackets.saturating_add(1)))
         }
         _ => None,
     }
 }
 
-fn passed_by_line(spot: MemberSpot, method: &Method, number: usize) -> Option<Located<Passed<'_>>> {
+fn exceeded_by_line(
+    spot: MemberSpot,
+    method: &Method,
+    number: usize,
+) -> Option<Located<ExceededLimit<'_>>> {
     let line = lines_of(method).get(number)?;
-    let passed = passed_by_instruction(&line.instruction)?;
-    located_at(passed, spot.line(number, LinePart::Name))
+    let evidence = exceeded_by_instruction(&line.instruction)?;
+    located_at(evidence, spot.line(number, LinePart::Name))
 }
 
-fn passed_stack(spot: MemberSpot, method: &Method) -> Option<Located<Passed<'_>>> {
-    let passed = Passed::MaxStack(code_of(&method.kind)?.max_stack);
-    located_at(passed, spot.part(MemberPart::MaxStack))
+fn exceeded_max_stack(spot: MemberSpot, method: &Method) -> Option<Located<ExceededLimit<'_>>> {
+    let evidence = ExceededLimit::MaxStack(code_of(&method.kind)?.max_stack);
+    located_at(evidence, spot.part(MemberPart::MaxStack))
 }
 
 fn count_arguments(method: &Method) -> usize {
@@ -161,36 +168,36 @@ fn count_arguments(method: &Method) -> usize {
     parameters.saturating_add(1)
 }
 
-fn passed_by_method(
+fn exceeded_by_method(
     spot: MemberSpot,
     method: &Method,
     limit: MethodLimit,
-) -> Option<Located<Passed<'_>>> {
+) -> Option<Located<ExceededLimit<'_>>> {
     match limit {
         MethodLimit::Arguments => {
-            let passed = Passed::Counted(ARGUMENTS, count_arguments(method));
-            located_at(passed, spot.name())
+            let evidence = ExceededLimit::Count(ARGUMENTS, count_arguments(method));
+            located_at(evidence, spot.name())
         }
         MethodLimit::Instructions => {
-            let passed = Passed::Counted(INSTRUCTIONS, lines_of(method).len());
-            located_at(passed, spot.line(MOST_INSTRUCTIONS, LinePart::Name))
+            let evidence = ExceededLimit::Count(INSTRUCTIONS, lines_of(method).len());
+            located_at(evidence, spot.line(MOST_INSTRUCTIONS, LinePart::Name))
         }
         MethodLimit::Locals => {
-            let passed = Passed::Counted(LOCALS, locals_of(method).len());
-            located_at(passed, spot.part(MemberPart::Locals))
+            let evidence = ExceededLimit::Count(LOCALS, locals_of(method).len());
+            located_at(evidence, spot.part(MemberPart::Locals))
         }
-        MethodLimit::MaxStack => passed_stack(spot, method),
-        MethodLimit::Line(number) => passed_by_line(spot, method, number),
+        MethodLimit::MaxStack => exceeded_max_stack(spot, method),
+        MethodLimit::Line(number) => exceeded_by_line(spot, method, number),
     }
 }
 
 // ---- the whole tree
 
 /// The first method of the source that is too many.
-fn passed_methods(classes: &[Class]) -> Option<Located<Passed<'_>>> {
+fn exceeded_methods(classes: &[Class]) -> Option<Located<ExceededLimit<'_>>> {
     let MethodPosition { class, member, .. } = method_of_number(classes, MOST_METHODS)?;
     let spot = MemberSpot { class, member };
-    located_at(Passed::Beyond(METHODS), spot.name())
+    located_at(ExceededLimit::Excess(METHODS), spot.name())
 }
 
 /// The static field of a class at this index among them.
@@ -211,13 +218,13 @@ fn static_field_at(class: usize, declared: &Class, index: usize) -> Option<Membe
     None
 }
 
-fn passed_static_fields(
+fn exceeded_static_fields(
     classes: &[Class],
     class: usize,
     index: usize,
-) -> Option<Located<Passed<'_>>> {
+) -> Option<Located<ExceededLimit<'_>>> {
     let spot = static_field_at(class, classes.get(class)?, index)?;
-    located_at(Passed::Beyond(STATIC_FIELDS), spot.name())
+    located_at(ExceededLimit::Excess(STATIC_FIELDS), spot.name())
 }
 
 /// How many instance fields a class declares.
@@ -248,44 +255,51 @@ fn count_fields(names: &NameTables, class: &Class) -> usize {
     count
 }
 
-fn passed_fields<'a>(names: &NameTables<'a>, class: usize) -> Option<Located<Passed<'a>>> {
+fn exceeded_instance_fields<'a>(
+    names: &NameTables<'a>,
+    class: usize,
+) -> Option<Located<ExceededLimit<'a>>> {
     let declared = names.classes.tree.classes.as_slice().get(class)?;
-    let passed = Passed::InstanceFields(&declared.name, count_fields(names, declared));
-    located_at(passed, class_name(class))
+    let evidence = ExceededLimit::InstanceFields(&declared.name, count_fields(names, declared));
+    located_at(evidence, class_name(class))
 }
 
-fn passed_brackets(tree: &Tree, site: TypeSite) -> Option<Located<Passed<'_>>> {
-    let passed = Passed::Brackets(type_at(tree, site)?.brackets);
-    located_at(passed, location_of(tree, site.part)?)
+fn exceeded_brackets(tree: &Tree, site: TypeSite) -> Option<Located<ExceededLimit<'_>>> {
+    let evidence = ExceededLimit::Brackets(type_at(tree, site)?.brackets);
+    located_at(evidence, location_of(tree, site.part)?)
 }
 
-fn passed_in_method(
+fn exceeded_in_method(
     tree: &Tree,
     method: SourceMember,
     limit: MethodLimit,
-) -> Option<Located<Passed<'_>>> {
+) -> Option<Located<ExceededLimit<'_>>> {
     let (spot, declared) = located_method(tree, method)?;
-    passed_by_method(spot, declared, limit)
+    exceeded_by_method(spot, declared, limit)
 }
 
-/// A limit that is passed. None where the tree has no such location.
-pub(crate) fn passed_limit<'a>(
+/// A limit that is exceeded. None where the tree has no such location.
+pub(crate) fn exceeded_limit<'a>(
     names: &NameTables<'a>,
-    passed: violations::Passed,
-) -> Option<Located<Passed<'a>>> {
+    limit: violations::ExceededLimit,
+) -> Option<Located<ExceededLimit<'a>>> {
     let tree = names.classes.tree;
     let classes = tree.classes.as_slice();
-    match passed {
-        violations::Passed::Classes => {
-            let passed = Passed::Counted(CLASSES, classes.len());
-            located_at(passed, class_name(MOST_CLASSES))
+    match limit {
+        violations::ExceededLimit::Classes => {
+            let evidence = ExceededLimit::Count(CLASSES, classes.len());
+            located_at(evidence, class_name(MOST_CLASSES))
         }
-        violations::Passed::Methods => passed_methods(classes),
-        violations::Passed::StaticFields { class, index } => {
-            passed_static_fields(classes, class, index)
+        violations::ExceededLimit::Methods => exceeded_methods(classes),
+        violations::ExceededLimit::StaticFields { class, index } => {
+            exceeded_static_fields(classes, class, index)
         }
-        violations::Passed::Brackets(site) => passed_brackets(tree, site),
-        violations::Passed::InstanceFields { class } => passed_fields(names, class),
-        violations::Passed::Method { method, limit } => passed_in_method(tree, method, limit),
+        violations::ExceededLimit::Brackets(site) => exceeded_brackets(tree, site),
+        violations::ExceededLimit::InstanceFields { class } => exceeded_instance_fields(
+            names, class,
+        ),
+        violations::ExceededLimit::Method { method, limit } => exceeded_in_method(
+            tree, method, limit,
+        ),
     }
 }

@@ -1,11 +1,11 @@
 //! Why a tree is no legal program (numbers 201 to 207).
 
-use crate::cycles::own_base;
+use crate::cycles::cyclic_base;
 use crate::duplicates::duplicate_name;
 use crate::entry::bad_entry;
 use crate::implemented::not_implemented;
 use crate::kinds::kind_mismatch_of;
-use crate::limits::passed_limit;
+use crate::limits::exceeded_limit;
 use crate::rule_evidence::{Evidence, Located};
 use crate::unknown::unknown_name;
 use metadata::violations::Violation;
@@ -86,13 +86,13 @@ impl Explanation<'_> {
     fn by_names(&self, names: &NameTables) -> Result<String, NoMemory> {
         match self.violation {
             Violation::Unknown(unknown) => self.of_evidence(unknown_name(names, unknown)),
-            Violation::OwnBase { class } => self.of_evidence(own_base(names, class)),
+            Violation::CyclicBase { class } => self.of_evidence(cyclic_base(names, class)),
             Violation::NotImplemented(absent) => self.of_evidence(not_implemented(names, absent)),
             Violation::KindMismatch(kind_mismatch) => self.of_evidence(kind_mismatch_of(
                 names,
                 kind_mismatch,
             )),
-            Violation::Passed(passed) => self.of_evidence(passed_limit(names, passed)),
+            Violation::ExceededLimit(limit) => self.of_evidence(exceeded_limit(names, limit)),
             _ => rule_text(self.alloc, self.named, self.violation),
         }
     }

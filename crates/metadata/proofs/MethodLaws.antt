@@ -74,9 +74,9 @@ none_no (suc m) (suc n) e = none_no m n e
 pub any_next : (p : ℕ → Bool) (bases : List (Option ℕ)) (left : ℕ) (next : Option ℕ) (class : ℕ) → next ≡ Some class → 0 < left → list_any p (line_within bases left next) ≡ p class || list_any p (line_within bases (left - 1) (base_in bases class))
 any_next p bases left next class e h = ap (λ o. list_any p (line_within bases left o)) e ∙ ap (list_any p) (line_step bases left class h)
 
-pub plain_next : (tree : Tree) (k : MethodIdentity) (bases : List (Option ℕ)) (left : ℕ) (next : Option ℕ) (class : ℕ) → next ≡ Some class → 0 < left →
+pub nonvirtual_next : (tree : Tree) (k : MethodIdentity) (bases : List (Option ℕ)) (left : ℕ) (next : Option ℕ) (class : ℕ) → next ≡ Some class → 0 < left →
     concrete_by_id tree k (line_within bases left next) ≡ option_map_or (λ (m : Method). not (is_virtual m.kind)) (method_found tree k class) (concrete_by_id tree k (line_within bases (left - 1) (base_in bases class)))
-plain_next tree k bases left next class e h = ap (λ o. concrete_by_id tree k (line_within bases left o)) e ∙ ap (concrete_by_id tree k) (line_step bases left class h)
+nonvirtual_next tree k bases left next class e h = ap (λ o. concrete_by_id tree k (line_within bases left o)) e ∙ ap (concrete_by_id tree k) (line_step bases left class h)
 
 -- the test of a class that is found, by its number and index
 pub of_pair : (g : ℕ → Bool) (o : Option MethodId) → option_map_or (λ m. g m.class) o false ≡ option_map_or (λ (p : ℕ × ℕ). g p.0) (option_map (λ m. (m.class, m.index)) o) false
@@ -150,9 +150,9 @@ module _ (tree : Tree) (k : MethodIdentity) where
             let row : slice_index_or (map (λ (x : ClassName × Declaration). map t x.1.methods) (declarations tree)) n [] ≡ map t found.0.1.methods = index_got (λ (x : ClassName × Declaration). map t x.1.methods) (declarations tree) n found.0 [] found.2 in
             ap (λ r. slice_index_or r p false) row ∙ index_got t found.0.1.methods p found.1 false found.3 ∙ sym (ap (λ f. option_map_or t f (nearest_passes ns)) found.4)
 
-  pub plain_tested : (ns : List ℕ) → concrete_by_id tree k ns ≡ nearest_passes (λ (m : Method). not (is_virtual m.kind)) ns
-  plain_tested [] = refl
-  plain_tested (n ∷ ns) = ap (option_map_or (λ (m : Method). not (is_virtual m.kind)) (method_found tree k n)) (plain_tested ns)
+  pub nonvirtual_tested : (ns : List ℕ) → concrete_by_id tree k ns ≡ nearest_passes (λ (m : Method). not (is_virtual m.kind)) ns
+  nonvirtual_tested [] = refl
+  nonvirtual_tested (n ∷ ns) = ap (option_map_or (λ (m : Method). not (is_virtual m.kind)) (method_found tree k n)) (nonvirtual_tested ns)
 
   pub top_tested : (ns : List ℕ) → is_nearest_abstract tree k ns ≡ nearest_passes (λ (m : Method). is_abstract_method m.kind) ns
   top_tested [] = refl

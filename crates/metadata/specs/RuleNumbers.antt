@@ -5,7 +5,7 @@ use Rattle.cil_model.specs.Legality.{doubles_name, lacks_name, has_cycle, lacks_
 use Rattle.metadata.specs.declared.program.MetaError.{MetaError}
 use Rattle.metadata.specs.declared.program.MetaError.TheVariants.{Broken, OutOfMemory}
 use Rattle.metadata.specs.declared.violations.Violation.{Violation}
-use Rattle.metadata.specs.declared.violations.Violation.TheVariants.{Duplicate, Unknown, OwnBase, NotImplemented, KindMismatch, BadEntry, Passed}
+use Rattle.metadata.specs.declared.violations.Violation.TheVariants.{Duplicate, Unknown, CyclicBase, NotImplemented, KindMismatch, BadEntry, ExceededLimit}
 use Rattle.metadata.specs.declared.rules.Rule.{Rule}
 use Rattle.metadata.specs.declared.rules.Rule.TheVariants.{NamesOccurOnce, NamesAreKnown, BasesEnd, InterfacesAreImplemented, KindsFit, OneEntryPoint, LimitsAreKept}
 
@@ -23,11 +23,11 @@ rule_number LimitsAreKept = 207
 abbrev pub rule_of : Violation → Rule
 rule_of (Duplicate name) = NamesOccurOnce
 rule_of (Unknown name) = NamesAreKnown
-rule_of (OwnBase class) = BasesEnd
+rule_of (CyclicBase class) = BasesEnd
 rule_of (NotImplemented absent) = InterfacesAreImplemented
 rule_of (KindMismatch kind_mismatch) = KindsFit
 rule_of (BadEntry entry) = OneEntryPoint
-rule_of (Passed limit) = LimitsAreKept
+rule_of (ExceededLimit limit) = LimitsAreKept
 
 -- the number that is printed where a rule is broken so (this profile)
 abbrev pub violation_number : Violation → ℕ

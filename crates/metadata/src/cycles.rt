@@ -57,7 +57,7 @@ fn suspect(alloc: Global, names: &NameTables) -> Result<Option<usize>, NoMemory>
 }
 
 /// The first of these classes that is in its own chain twice.
-fn first_own_base(names: &NameTables, classes: &[Class]) -> Option<usize>
+fn first_cyclic_base(names: &NameTables, classes: &[Class]) -> Option<usize>
     ensures { is_some result ≡ list_any (λ c. is_own_base names.now.classes.tree.now (source_name c)) classes.now }
 {
     for (class, declared) in classes.iter().enumerate() {
@@ -70,7 +70,7 @@ fn first_own_base(names: &NameTables, classes: &[Class]) -> Option<usize>
 
 /// The first class that is in its own chain twice; none where there is none (number 203). It is tested first where a walk along all
 /// bases met itself, so that no more than a few chains are followed. The only error is out of memory.
-pub fn own_base(alloc: Global, names: &NameTables) -> Result<Option<usize>, NoMemory>
+pub fn cyclic_base(alloc: Global, names: &NameTables) -> Result<Option<usize>, NoMemory>
     ensures { IfOk result (λ c. is_some c ≡ has_cycle names.now.classes.tree.now) }
 {
     let classes = names.classes.tree.classes.as_slice();
@@ -81,5 +81,5 @@ pub fn own_base(alloc: Global, names: &NameTables) -> Result<Option<usize>, NoMe
             }
         }
     }
-    Ok(first_own_base(names, classes))
+    Ok(first_cyclic_base(names, classes))
 }

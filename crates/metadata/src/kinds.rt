@@ -293,7 +293,7 @@ fn unless_virtual(class: ClassId, method: &Method) -> Option<ClassId>
 }
 
 /// The class from one on along its bases with the nearest method of this name and signature, where that is not virtual.
-fn plain_along(names: &NameTables, key: MethodKey, first: ClassId) -> Option<ClassId>
+fn nonvirtual_along(names: &NameTables, key: MethodKey, first: ClassId) -> Option<ClassId>
     ensures { is_some result ≡ concrete_by_id names.now.classes.tree.now (method_of_key key.entry) (line_of names.now.classes.tree.now (Some first)) }
 {
     let mut next = Some(first);
@@ -312,7 +312,7 @@ fn plain_along(names: &NameTables, key: MethodKey, first: ClassId) -> Option<Cla
 }
 
 /// A class, where its method of this name and signature is not virtual.
-fn plain_at(names: &NameTables, key: MethodKey, class: ClassId) -> Option<ClassId>
+fn nonvirtual_at(names: &NameTables, key: MethodKey, class: ClassId) -> Option<ClassId>
     ensures { is_some result ≡ option_map_or (λ m. not (is_virtual m.kind)) (method_found names.now.classes.tree.now (method_of_key key.entry) class) false }
 {
     match names.classes.method(class, key) {
@@ -322,31 +322,31 @@ fn plain_at(names: &NameTables, key: MethodKey, class: ClassId) -> Option<ClassI
 }
 
 /// The class that a look-up found, where its method of this name and signature is not virtual.
-fn plain_found(names: &NameTables, key: MethodKey, found: Option<MethodId>) -> Option<ClassId>
+fn nonvirtual_found(names: &NameTables, key: MethodKey, found: Option<MethodId>) -> Option<ClassId>
     ensures { is_some result ≡ option_map_or (λ f. option_map_or (λ m. not (is_virtual m.kind)) (method_found names.now.classes.tree.now (method_of_key key.entry) f.class) false) found false }
 {
     match found {
         None => None,
-        Some(found) => plain_at(names, key, found.class),
+        Some(found) => nonvirtual_at(names, key, found.class),
     }
 }
 
 /// The class from one on along its bases with the nearest method of this name and signature, where that is not virtual. Only where the
 /// bases do not end are they followed.
-fn plain_base(methods: &MethodTables, key: MethodKey, base: Option<ClassId>) -> Option<ClassId>
+fn nonvirtual_base(methods: &MethodTables, key: MethodKey, base: Option<ClassId>) -> Option<ClassId>
     ensures { is_some result ≡ concrete_by_id methods.now.names.now.classes.tree.now (method_of_key key.entry) (line_of methods.now.names.now.classes.tree.now base) }
 {
     let Some(base) = base else {
         return None;
     };
     match methods.nearest(base, key) {
-        Ok(found) => plain_found(methods.names, key, found),
-        Err(Cyclic) => plain_along(methods.names, key, base),
+        Ok(found) => nonvirtual_found(methods.names, key, found),
+        Err(Cyclic) => nonvirtual_along(methods.names, key, base),
     }
 }
 
 /// The class whose method, which is not virtual, a virtual one without newslot would override (ECMA-335 II.10.3.1, this profile).
-fn plain_below(methods: &MethodTables, class: &Class, method: &Method) -> Option<ClassId>
+fn nonvirtual_below(methods: &MethodTables, class: &Class, method: &Method) -> Option<ClassId>
     ensures { is_some result ≡ overrides_no_virtual methods.now.names.now.classes.tree.now (source_name class.now) method.now }
 {
     if !is_virtual(&method.kind) {
@@ -356,16 +356,16 @@ fn plain_below(methods: &MethodTables, class: &Class, method: &Method) -> Option
         return None;
     }
     let key = MethodKey::new(&method.name, &method.signature);
-    plain_base(methods, key, base_id(methods.names, class))
+    nonvirtual_base(methods, key, base_id(methods.names, class))
 }
 
 /// The first virtual method without newslot over one that is not virtual.
-fn over_plain(tables: &MethodTables, class: &Class, methods: &[&Method]) -> Option<KindFault>
+fn over_nonvirtual(tables: &MethodTables, class: &Class, methods: &[&Method]) -> Option<KindFault>
     ensures { is_some result ≡ list_any (overrides_no_virtual tables.now.names.now.classes.tree.now (source_name class.now)) (map (λ m. m.now) methods.now) }
 {
     for (method, declared) in methods.iter().enumerate() {
-        if let Some(base) = plain_below(tables, class, declared) {
-            return Some(KindFault::OverPlain { method, base });
+        if let Some(base) = nonvirtual_below(tables, class, declared) {
+            return Some(KindFault::OverNonvirtual { method, base });
         }
     }
     None
@@ -436,7 +436,7 @@ fn class_fault(
     if let Some(fault) = incomplete(alloc, slots, class, is_abstract, methods)? {
         return Ok(Some(fault));
     }
-    Ok(over_plain(slots.methods, class, methods))
+    Ok(over_nonvirtual(slots.methods, class, methods))
 }
 
 /// The first method whose kind does not fit its class or what that inherits (ECMA-335 II.15.4.2). The only error is out of memory.

@@ -1,4 +1,4 @@
-//! Limits that are passed, all of which are this profile's.
+//! Limits that are exceeded, all of which are this profile's.
 
 ghost use Rattle.std.specs.Prelude.{◌≡◌, ◌≤◌, ◌+◌, ◌&&◌, nat_le, int_le, pos, IfOk, is_none, is_some, length, map, sum, count_by};
 ghost use Rattle.std.specs.List.{list_all, sum_by};
@@ -13,7 +13,7 @@ ghost use Rattle.cil_model.specs.declared.types.ClassName.{ClassName};
 ghost use Rattle.metadata.specs.Counts.{instance_count, static_count};
 
 use crate::mentions::{SitedType, types_of_tree};
-use crate::violations::{MethodLimit, Passed, SourceMember};
+use crate::violations::{ExceededLimit, MethodLimit, SourceMember};
 use cil_model::instructions::Instruction;
 use cil_model::limits::{
     MOST_ARGUMENTS, MOST_BRACKETS, MOST_CLASSES, MOST_INSTANCE_FIELDS, MOST_INSTRUCTIONS,
@@ -42,8 +42,8 @@ fn is_small_instruction(instruction: &Instruction) -> bool
     }
 }
 
-/// The first line whose instruction passes a limit.
-fn passed_by_lines(lines: &[Line]) -> Option<MethodLimit>
+/// The first line whose instruction exceeds a limit.
+fn exceeded_by_lines(lines: &[Line]) -> Option<MethodLimit>
     ensures { is_none result ≡ list_all is_small_instruction (map (λ l. l.instruction) lines.now) }
 {
     for (number, line) in lines.iter().enumerate() {
@@ -54,7 +54,7 @@ fn passed_by_lines(lines: &[Line]) -> Option<MethodLimit>
     None
 }
 
-fn passed_by_body(code: &Code) -> Option<MethodLimit>
+fn exceeded_by_body(code: &Code) -> Option<MethodLimit>
     ensures { is_none result ≡ is_small_code code.now }
 {
     if code.lines.as_slice().len() > MOST_INSTRUCTIONS {
@@ -72,12 +72,12 @@ fn passed_by_body(code: &Code) -> Option<MethodLimit>
     None
 }
 
-fn passed_by_code(method: &Method) -> Option<MethodLimit>
+fn exceeded_by_code(method: &Method) -> Option<MethodLimit>
     ensures { is_none result ≡ list_all is_small_code (codes_of method.now) }
 {
     match code_of(&method.kind) {
         None => None,
-        Some(code) => passed_by_body(code),
+        Some(code) => exceeded_by_body(code),
     }
 }
 
@@ -93,26 +93,26 @@ fn has_few_arguments(method: &Method) -> bool
     }
 }
 
-fn passed_by_method(method: &Method) -> Option<MethodLimit>
+fn exceeded_by_method(method: &Method) -> Option<MethodLimit>
     ensures { (o : ClassName) → is_none result ≡ is_small_method o method.now }
 {
     if !has_few_arguments(method) {
         return Some(MethodLimit::Arguments);
     }
-    if let Some(limit) = passed_by_code(method) {
+    if let Some(limit) = exceeded_by_code(method) {
         return Some(limit);
     }
-    passed_by_lines(lines_of(method))
+    exceeded_by_lines(lines_of(method))
 }
 
-/// The first method that passes a limit of methods.
-fn passed_by_methods(class: usize, methods: &[&Method]) -> Option<Passed>
+/// The first method that exceeds a limit of methods.
+fn exceeded_by_methods(class: usize, methods: &[&Method]) -> Option<ExceededLimit>
     ensures { (o : ClassName) → is_none result ≡ list_all (is_small_method o) (map (λ m. m.now) methods.now) }
 {
     for (index, declared) in methods.iter().enumerate() {
-        if let Some(limit) = passed_by_method(declared) {
+        if let Some(limit) = exceeded_by_method(declared) {
             let method = SourceMember { class, index };
-            return Some(Passed::Method { method, limit });
+            return Some(ExceededLimit::Method { method, limit });
         }
     }
     None
@@ -121,12 +121,12 @@ fn passed_by_methods(class: usize, methods: &[&Method]) -> Option<Passed>
 // ---- types
 
 /// The first type with too many brackets.
-fn passed_by_types(types: &[SitedType]) -> Option<Passed>
+fn exceeded_by_types(types: &[SitedType]) -> Option<ExceededLimit>
     ensures { is_none result ≡ list_all (λ t. nat_le t.brackets MOST_BRACKETS) (map (λ t. t.declared.now) types.now) }
 {
     for sited in types {
         if sited.declared.brackets > MOST_BRACKETS {
-            return Some(Passed::Brackets(sited.site));
+            return Some(ExceededLimit::Brackets(sited.site));
         }
     }
     None
@@ -178,14 +178,14 @@ fn has_few_instance_fields(names: &NameTables, chain: &[ClassId]) -> bool
 }
 
 /// The first static field of the source that is too many.
-fn static_field_beyond(names: &NameTables, classes: &[Class]) -> Option<Passed>
+fn exceeded_by_static_fields(names: &NameTables, classes: &[Class]) -> Option<ExceededLimit>
     ensures { is_none result ≡ nat_le (sum_by (static_count names.now.classes.tree.now) classes.now) MOST_STATIC_FIELDS }
 {
     let mut left = MOST_STATIC_FIELDS;
     for (class, declared) in classes.iter().enumerate() {
         let own = count_static_fields(names, declared);
         if own > left {
-            return Some(Passed::StaticFields { class, index: left });
+            return Some(ExceededLimit::StaticFields { class, index: left });
         }
         left -= own;
     }
@@ -194,29 +194,29 @@ fn static_field_beyond(names: &NameTables, classes: &[Class]) -> Option<Passed>
 
 // ---- the whole tree
 
-/// What a class passes: the limit of the fields of its objects, or one of a method. The only error is out of memory.
-fn passed_by_class(
+/// What a class exceeds: the limit of the fields of its objects, or one of a method. The only error is out of memory.
+fn exceeded_by_class(
     alloc: Global,
     names: &NameTables,
     number: usize,
     class: &Class,
-) -> Result<Option<Passed>, NoMemory>
+) -> Result<Option<ExceededLimit>, NoMemory>
     ensures { IfOk result (λ p. is_none p ≡ is_small_class names.now.classes.tree.now class.now) }
 {
     let chain = names.chain(alloc, ClassKey::of_source(class))?;
     if !has_few_instance_fields(names, chain.as_slice()) {
-        return Ok(Some(Passed::InstanceFields { class: number }));
+        return Ok(Some(ExceededLimit::InstanceFields { class: number }));
     }
     let methods = method_members(alloc, class)?;
-    Ok(passed_by_methods(number, methods.as_slice()))
+    Ok(exceeded_by_methods(number, methods.as_slice()))
 }
 
-fn passed_by_classes(alloc: Global, names: &NameTables) -> Result<Option<Passed>, NoMemory>
+fn exceeded_by_classes(alloc: Global, names: &NameTables) -> Result<Option<ExceededLimit>, NoMemory>
     ensures { IfOk result (λ p. is_none p ≡ list_all (is_small_class names.now.classes.tree.now) names.now.classes.tree.now.classes) }
 {
     for (number, class) in names.classes.tree.classes.as_slice().iter().enumerate() {
-        if let Some(passed) = passed_by_class(alloc, names, number, class)? {
-            return Ok(Some(passed));
+        if let Some(limit) = exceeded_by_class(alloc, names, number, class)? {
+            return Ok(Some(limit));
         }
     }
     Ok(None)
@@ -228,29 +228,32 @@ fn has_few_methods(alloc: Global, names: &NameTables) -> Result<bool, NoMemory>
     Ok(methods_of_tree(alloc, names.classes.tree)?.len() <= MOST_METHODS)
 }
 
-fn passed_by_all_types(alloc: Global, names: &NameTables) -> Result<Option<Passed>, NoMemory>
+fn exceeded_by_all_types(
+    alloc: Global,
+    names: &NameTables,
+) -> Result<Option<ExceededLimit>, NoMemory>
     ensures { IfOk result (λ p. is_none p ≡ list_all (λ t. nat_le t.brackets MOST_BRACKETS) (types_of_tree names.now.classes.tree.now)) }
 {
     let types = types_of_tree(alloc, names.classes.tree)?;
-    Ok(passed_by_types(types.as_slice()))
+    Ok(exceeded_by_types(types.as_slice()))
 }
 
-/// The first limit that the source passes; none where there is none (number 207). The only error is out of memory.
-pub fn passed_limit(alloc: Global, names: &NameTables) -> Result<Option<Passed>, NoMemory>
+/// The first limit that the source exceeds; none where there is none (number 207). The only error is out of memory.
+pub fn exceeded_limit(alloc: Global, names: &NameTables) -> Result<Option<ExceededLimit>, NoMemory>
     ensures { IfOk result (λ p. is_some p ≡ passes_limit names.now.classes.tree.now) }
 {
     let classes = names.classes.tree.classes.as_slice();
     if classes.len() > MOST_CLASSES {
-        return Ok(Some(Passed::Classes));
+        return Ok(Some(ExceededLimit::Classes));
     }
     if !has_few_methods(alloc, names)? {
-        return Ok(Some(Passed::Methods));
+        return Ok(Some(ExceededLimit::Methods));
     }
-    if let Some(passed) = static_field_beyond(names, classes) {
-        return Ok(Some(passed));
+    if let Some(limit) = exceeded_by_static_fields(names, classes) {
+        return Ok(Some(limit));
     }
-    if let Some(passed) = passed_by_all_types(alloc, names)? {
-        return Ok(Some(passed));
+    if let Some(limit) = exceeded_by_all_types(alloc, names)? {
+        return Ok(Some(limit));
     }
-    passed_by_classes(alloc, names)
+    exceeded_by_classes(alloc, names)
 }

@@ -4,12 +4,12 @@ ghost use Rattle.std.specs.Prelude.{◌≡◌, IfOk, option_map};
 ghost use Rattle.cil_model.specs.Legality.{first_broken, least_broken};
 ghost use Rattle.metadata.specs.RuleNumbers.{rule_number, violation_number, rules_of_names, rules_of_methods};
 
-use crate::cycles::own_base;
+use crate::cycles::cyclic_base;
 use crate::duplicates::duplicate_name;
 use crate::entry::bad_entry;
 use crate::implemented::not_implemented;
 use crate::kinds::kind_mismatch;
-use crate::limits::passed_limit;
+use crate::limits::exceeded_limit;
 use crate::unknown::unknown_name;
 use crate::violations::Violation;
 use cil_model::memory::NoMemory;
@@ -33,7 +33,7 @@ pub enum Rule {
     KindsFit,
     /// 206: there is one entry point, in a static method without parameters that returns nothing.
     OneEntryPoint,
-    /// 207: no limit is passed.
+    /// 207: no limit is exceeded.
     LimitsAreKept,
 }
 
@@ -81,8 +81,8 @@ fn broken_by_names(alloc: Global, names: &NameTables) -> Result<Option<Violation
     if let Some(unknown) = unknown_name(alloc, names)? {
         return Ok(Some(Violation::Unknown(unknown)));
     }
-    if let Some(class) = own_base(alloc, names)? {
-        return Ok(Some(Violation::OwnBase { class }));
+    if let Some(class) = cyclic_base(alloc, names)? {
+        return Ok(Some(Violation::CyclicBase { class }));
     }
     Ok(None)
 }
@@ -101,8 +101,8 @@ fn broken_by_methods(alloc: Global, methods: &MethodTables) -> Result<Option<Vio
     if let Some(entry) = bad_entry(alloc, names.classes.tree)? {
         return Ok(Some(Violation::BadEntry(entry)));
     }
-    if let Some(passed) = passed_limit(alloc, names)? {
-        return Ok(Some(Violation::Passed(passed)));
+    if let Some(limit) = exceeded_limit(alloc, names)? {
+        return Ok(Some(Violation::ExceededLimit(limit)));
     }
     Ok(None)
 }

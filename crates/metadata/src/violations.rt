@@ -146,7 +146,7 @@ pub enum KindFault {
     /// A method of any class that fills a slot of the class, which is not abstract, with nothing.
     LeftOpen { open: MethodId },
     /// A virtual method without newslot over one that is not virtual, and that one's class.
-    OverPlain { method: usize, base: ClassId },
+    OverNonvirtual { method: usize, base: ClassId },
 }
 
 /// A method whose kind does not fit its class or what that inherits (number 205).
@@ -173,7 +173,7 @@ pub enum BadEntry {
     Takes(SourceMember),
 }
 
-/// A limit of a method that is passed.
+/// A limit of a method that is exceeded.
 #[derive(Clone, Copy)]
 pub enum MethodLimit {
     Arguments,
@@ -184,9 +184,9 @@ pub enum MethodLimit {
     Line(usize),
 }
 
-/// A limit that is passed (number 207).
+/// A limit that is exceeded (number 207).
 #[derive(Clone, Copy)]
-pub enum Passed {
+pub enum ExceededLimit {
     Classes,
     Methods,
     /// The first static field that is too many, by its index among the static fields of its class.
@@ -212,11 +212,11 @@ pub enum Violation {
     Duplicate(Duplicate),
     Unknown(Unknown),
     /// The class that is in the chain of its base (number 203).
-    OwnBase { class: usize },
+    CyclicBase { class: usize },
     NotImplemented(NotImplemented),
     KindMismatch(KindMismatch),
     BadEntry(BadEntry),
-    Passed(Passed),
+    ExceededLimit(ExceededLimit),
 }
 
 impl Violation {
@@ -230,11 +230,11 @@ impl Violation {
         match self {
             Violation::Duplicate(_) => Rule::NamesOccurOnce,
             Violation::Unknown(_) => Rule::NamesAreKnown,
-            Violation::OwnBase { .. } => Rule::BasesEnd,
+            Violation::CyclicBase { .. } => Rule::BasesEnd,
             Violation::NotImplemented(_) => Rule::InterfacesAreImplemented,
             Violation::KindMismatch(_) => Rule::KindsFit,
             Violation::BadEntry(_) => Rule::OneEntryPoint,
-            Violation::Passed(_) => Rule::LimitsAreKept,
+            Violation::ExceededLimit(_) => Rule::LimitsAreKept,
         }
     }
 }

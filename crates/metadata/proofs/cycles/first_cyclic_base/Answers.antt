@@ -5,7 +5,7 @@ use Rattle.cil_model.specs.declared.trees.Class.{Class}
 use Rattle.cil_model.specs.Declarations.{source_name}
 use Rattle.cil_model.specs.Legality.{is_own_base}
 use Rattle.metadata.proofs.WalkLaws.{any_found, any_after}
-use Rattle.metadata.proofs.cycles.first_own_base.Goals as goal
+use Rattle.metadata.proofs.cycles.first_cyclic_base.Goals as goal
 
 pub loop-class-init : goal.loop-class-init
 loop-class-init c = refl

@@ -5,7 +5,7 @@ use Rattle.cil_model.specs.declared.trees.Class.{Class}
 use Rattle.cil_model.specs.Declarations.{source_name}
 use Rattle.cil_model.specs.Legality.{is_own_base}
 use Rattle.metadata.proofs.CycleLaws.{some_round}
-use Rattle.metadata.proofs.cycles.own_base.Goals as goal
+use Rattle.metadata.proofs.cycles.cyclic_base.Goals as goal
 
 pub returns-then-is_own_base : goal.returns-then-is_own_base
 returns-then-is_own_base c =
@@ -18,4 +18,4 @@ returns-then-is_own_base c =
 pub returns : goal.returns
 returns c =
     let t = c.args.names.now.classes.tree.now in
-    c.first_own_base.ensures ∙ ap (list_any (λ (k : Class). is_own_base t (source_name k))) c.as_slice-classes.ensures
+    c.first_cyclic_base.ensures ∙ ap (list_any (λ (k : Class). is_own_base t (source_name k))) c.as_slice-classes.ensures

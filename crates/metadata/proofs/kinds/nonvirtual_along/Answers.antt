@@ -8,8 +8,8 @@ use Rattle.name_tables.specs.Keys.{method_of_key}
 use Rattle.name_tables.specs.Members.{base_numbers}
 use Rattle.name_tables.specs.Numbers.{method_found}
 use Rattle.resolved_code.specs.VirtualSlots.{concrete_by_id}
-use Rattle.metadata.proofs.MethodLaws.{plain_next}
-use Rattle.metadata.proofs.kinds.plain_along.Goals as goal
+use Rattle.metadata.proofs.MethodLaws.{nonvirtual_next}
+use Rattle.metadata.proofs.kinds.nonvirtual_along.Goals as goal
 
 pub returns-in-Some-method : goal.returns-in-Some-method
 returns-in-Some-method c =
@@ -20,7 +20,7 @@ returns-in-Some-method c =
     let rest = concrete_by_id t k (line_within bases (c.loop-left.left - 1) (base_in bases class)) in
     let found : method_found t k class ≡ Some c.in-Some-method.method.now = sym c.method.ensures ∙ ap (option_map (λ m. m.now)) c.in-Some-method.is in
     c.unless_virtual.ensures ∙ sym (ap (λ f. option_map_or (λ (m : Method). not (is_virtual m.kind)) f rest) found) ∙
-    sym (plain_next t k bases c.loop-left.left c.loop-left.next class c.in-Some.is (omega arith)) ∙ c.loop-left.invariant
+    sym (nonvirtual_next t k bases c.loop-left.left c.loop-left.next class c.in-Some.is (omega arith)) ∙ c.loop-left.invariant
 
 pub loop-left-preserved : goal.loop-left-preserved
 loop-left-preserved c =
@@ -32,7 +32,7 @@ loop-left-preserved c =
     let rest = concrete_by_id t k (line_within bases (left - 1) (base_in bases class)) in
     let none : method_found t k class ≡ None = sym c.method.ensures ∙ ap (option_map (λ m. m.now)) c.in_default-method.is in
     ap (λ o. concrete_by_id t k (line_within bases (left - 1) o)) c.base-next.ensures ∙ sym (ap (λ f. option_map_or (λ (m : Method). not (is_virtual m.kind)) f rest) none) ∙
-    sym (plain_next t k bases left c.loop-left.next class c.in-Some.is (omega arith)) ∙ c.loop-left.invariant
+    sym (nonvirtual_next t k bases left c.loop-left.next class c.in-Some.is (omega arith)) ∙ c.loop-left.invariant
 
 pub returns-in_default : goal.returns-in_default
 returns-in_default c =

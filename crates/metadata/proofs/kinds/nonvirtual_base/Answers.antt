@@ -8,8 +8,8 @@ use Rattle.name_tables.specs.Members.{base_numbers}
 use Rattle.name_tables.specs.Methods.{line_of}
 use Rattle.name_tables.specs.Numbers.{method_found}
 use Rattle.resolved_code.specs.VirtualSlots.{concrete_by_id}
-use Rattle.metadata.proofs.MethodLaws.{of_pair, plain_tested, tested}
-use Rattle.metadata.proofs.kinds.plain_base.Goals as goal
+use Rattle.metadata.proofs.MethodLaws.{of_pair, nonvirtual_tested, tested}
+use Rattle.metadata.proofs.kinds.nonvirtual_base.Goals as goal
 
 pub returns-in_default : goal.returns-in_default
 returns-in_default c =
@@ -20,7 +20,7 @@ returns-in_default c =
 pub returns-in-Err : goal.returns-in-Err
 returns-in-Err c =
     let t = c.args.methods.now.names.now.classes.tree.now in
-    c.plain_along.ensures ∙ ap (λ o. concrete_by_id t (method_of_key c.args.key) (line_of t o)) (sym c.in-Some.is)
+    c.nonvirtual_along.ensures ∙ ap (λ o. concrete_by_id t (method_of_key c.args.key) (line_of t o)) (sym c.in-Some.is)
 
 pub returns-in-Ok : goal.returns-in-Ok
 returns-in-Ok c =
@@ -28,5 +28,5 @@ returns-in-Ok c =
     let k = method_of_key c.args.key in
     let plain : Method → Bool = λ m. not (is_virtual m.kind) in
     let at : ℕ → Bool = λ n. option_map_or plain (method_found t k n) false in
-    c.plain_found.ensures ∙ of_pair at c.in-Ok.found ∙ ap (λ (o : Option (ℕ × ℕ)). option_map_or (λ (p : ℕ × ℕ). at p.0) o false) c.in-Ok.ensures.found ∙
-    sym (tested t k plain (line_of t (Some c.in-Some.base))) ∙ sym (plain_tested t k (line_of t (Some c.in-Some.base))) ∙ ap (λ o. concrete_by_id t k (line_of t o)) (sym c.in-Some.is)
+    c.nonvirtual_found.ensures ∙ of_pair at c.in-Ok.found ∙ ap (λ (o : Option (ℕ × ℕ)). option_map_or (λ (p : ℕ × ℕ). at p.0) o false) c.in-Ok.ensures.found ∙
+    sym (tested t k plain (line_of t (Some c.in-Some.base))) ∙ sym (nonvirtual_tested t k (line_of t (Some c.in-Some.base))) ∙ ap (λ o. concrete_by_id t k (line_of t o)) (sym c.in-Some.is)

@@ -4,7 +4,7 @@ use Rattle.name_tables.specs.Keys.{method_of_key}
 use Rattle.name_tables.specs.Members.{base_numbers}
 use Rattle.name_tables.specs.Methods.{line_of}
 use Rattle.resolved_code.specs.VirtualSlots.{concrete_by_id}
-use Rattle.metadata.proofs.kinds.plain_along.Given as goal
+use Rattle.metadata.proofs.kinds.nonvirtual_along.Given as goal
 
 abbrev pub invariant-loop-left : goal.invariant-loop-left
 invariant-loop-left l =

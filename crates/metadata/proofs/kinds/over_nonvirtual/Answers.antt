@@ -4,7 +4,7 @@ use Rattle.cil_model.specs.declared.trees.Method.{Method}
 use Rattle.cil_model.specs.Declarations.{source_name}
 use Rattle.cil_model.specs.Legality.{overrides_no_virtual}
 use Rattle.metadata.proofs.WalkLaws.{any_found_in, any_after_in, none_left_in}
-use Rattle.metadata.proofs.kinds.over_plain.Goals as goal
+use Rattle.metadata.proofs.kinds.over_nonvirtual.Goals as goal
 
 pub loop-method-init : goal.loop-method-init
 loop-method-init c = refl
@@ -13,13 +13,13 @@ pub loop-method-preserved : goal.loop-method-preserved
 loop-method-preserved c =
     let t = c.args.tables.now.names.now.classes.tree.now in
     let p : Method → Bool = overrides_no_virtual t (source_name c.args.class.now) in
-    any_after_in (λ (m : Bor Method). m.now) p c.args.methods.now c.loop-method.method c.index-methods-method.result (omega arith) c.index-methods-method.is (sym c.plain_below.ensures ∙ ap is_some c.in_default.is) ∙ c.loop-method.invariant
+    any_after_in (λ (m : Bor Method). m.now) p c.args.methods.now c.loop-method.method c.index-methods-method.result (omega arith) c.index-methods-method.is (sym c.nonvirtual_below.ensures ∙ ap is_some c.in_default.is) ∙ c.loop-method.invariant
 
 pub returns-in-Some : goal.returns-in-Some
 returns-in-Some c =
     let t = c.args.tables.now.names.now.classes.tree.now in
     let p : Method → Bool = overrides_no_virtual t (source_name c.args.class.now) in
-    sym (any_found_in (λ (m : Bor Method). m.now) p c.args.methods.now c.loop-method.method c.index-methods-method.result (omega arith) c.index-methods-method.is (sym c.plain_below.ensures ∙ ap is_some c.in-Some.is)) ∙ c.loop-method.invariant
+    sym (any_found_in (λ (m : Bor Method). m.now) p c.args.methods.now c.loop-method.method c.index-methods-method.result (omega arith) c.index-methods-method.is (sym c.nonvirtual_below.ensures ∙ ap is_some c.in-Some.is)) ∙ c.loop-method.invariant
 
 pub returns : goal.returns
 returns c =
