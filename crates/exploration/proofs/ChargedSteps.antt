@@ -26,16 +26,16 @@ ChargesStepAlike tree x y = (x.1 ≡ HasEnded Budget) ⊎ ((x.1 ≡ y.1) × IsTh
 
 by_budget : (tree : Tree) (e : Effect) (m : Frames) (left left' : ℕ) (b b' : Bool) → (status_after (if b' then Some Budget else None) m left' e).1 ≢ HasEnded Budget →
     ChargesStepAlike tree (status_after (if b then Some Budget else None) m left e) (status_after (if b' then Some Budget else None) m left' e)
-by_budget tree e m left left' true b' lasts = inl refl
-by_budget tree e m left left' false true lasts = absurd (lasts refl)
-by_budget tree e m left left' false false lasts = inr (refl, here m)
+by_budget tree e m left left' true b' within_budget = inl refl
+by_budget tree e m left left' false true within_budget = absurd (within_budget refl)
+by_budget tree e m left left' false false within_budget = inr (refl, here m)
 
 pub charges_step_alike : (tree : Tree) (e : Effect) (m : Frames) (left left' : ℕ) → (charge e (live_thread left' m)).1 ≢ HasEnded Budget →
     ChargesStepAlike tree (charge e (live_thread left m)) (charge e (live_thread left' m))
-charges_step_alike tree Returns m left left' lasts = inr (refl, refl)
-charges_step_alike tree (Raises f) m left left' lasts = inr (refl, refl)
-charges_step_alike tree Continues m left left' lasts = by_budget tree Continues m (left - 1) (left' - 1) (left - 1 == 0) (left' - 1 == 0) lasts
-charges_step_alike tree Blocks m left left' lasts = by_budget tree Blocks m (left - 1) (left' - 1) (left - 1 == 0) (left' - 1 == 0) lasts
+charges_step_alike tree Returns m left left' within_budget = inr (refl, refl)
+charges_step_alike tree (Raises f) m left left' within_budget = inr (refl, refl)
+charges_step_alike tree Continues m left left' within_budget = by_budget tree Continues m (left - 1) (left' - 1) (left - 1 == 0) (left' - 1 == 0) within_budget
+charges_step_alike tree Blocks m left left' within_budget = by_budget tree Blocks m (left - 1) (left' - 1) (left - 1 == 0) (left' - 1 == 0) within_budget
 
 -- ---- the whole machine state
 
@@ -45,7 +45,7 @@ TransitionsAlike x y = (x.1 ≡ HasEnded Budget) ⊎ ((x.1 ≡ y.1) × IsLagging
 
 pub counted_alike : (c : MachineState) (ts : List Thread) → Agree (IsThreadLagging c.tree) c.threads ts → (t left left' : ℕ) (e : Effect) (m : Frames) →
     (count_step (record c { threads = ts }) t left' e m).1 ≢ HasEnded Budget → TransitionsAlike (count_step c t left e m) (count_step (record c { threads = ts }) t left' e m)
-counted_alike c ts agree t left left' e m lasts = by_thread (charges_step_alike c.tree e m left left' lasts)
+counted_alike c ts agree t left left' e m within_budget = by_thread (charges_step_alike c.tree e m left left' within_budget)
   where
     by_thread : ChargesStepAlike c.tree (charge e (live_thread left m)) (charge e (live_thread left' m)) → TransitionsAlike (count_step c t left e m) (count_step (record c { threads = ts }) t left' e m)
     by_thread (inl over) = inl over
@@ -74,7 +74,7 @@ live_alike tree (x ∷ xs) [] h n = elim h [ ]
 
 -- ---- the outcome of an instruction
 
-module _ (c : MachineState) (ts : List Thread) (agree : Agree (IsThreadLagging c.tree) c.threads ts) (t left left' : ℕ) (m : Frames) (y : MachineState × Report) (lasts : y.1 ≢ HasEnded Budget) where
+module _ (c : MachineState) (ts : List Thread) (agree : Agree (IsThreadLagging c.tree) c.threads ts) (t left left' : ℕ) (m : Frames) (y : MachineState × Report) (within_budget : y.1 ≢ HasEnded Budget) where
   abbrev d : MachineState
   d = record c { threads = ts }
 
@@ -87,7 +87,7 @@ module _ (c : MachineState) (ts : List Thread) (agree : Agree (IsThreadLagging c
       let same = same_Some (count_step (record b { threads = us }) t left' e n) y is in (
         count_step b t left e n,
         refl,
-        subst (λ z. TransitionsAlike (count_step b t left e n) z) same (counted_alike b us h t left left' e n (subst (λ (z : MachineState × Report). z.1 ≢ HasEnded Budget) (sym same) lasts)),
+        subst (λ z. TransitionsAlike (count_step b t left e n) z) same (counted_alike b us h t left left' e n (subst (λ (z : MachineState × Report). z.1 ≢ HasEnded Budget) (sym same) within_budget)),
       )
 
   -- ---- a start

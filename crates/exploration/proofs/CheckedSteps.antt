@@ -58,15 +58,15 @@ module _ (first : MachineState) (paths : List (List Event)) where
         next = h.into.next;
         report = h.into.report;
         transition = h.into.transition;
-        lasts = h.into.lasts;
-        granted = h.into.granted;
+        within_budget = h.into.within_budget;
+        not_refused = h.into.not_refused;
         covered = record {
           machine_state = h.into.covered.machine_state;
           among = subst (IsLedTo first paths) (sym h.into.covered.among) among;
           lagging = h.into.covered.lagging;
         };
       },
-      λ yes. moves_on first one events h.machine_state h.leads t h.live h.into.next h.into.report h.into.transition (h.made yes),
+      λ yes. moves_on first one events h.machine_state h.leads t h.live h.into.next h.into.report h.into.transition (h.not_blocked yes),
     )
 
     module _ (entries : List (Option Bool)) (are : AreEntries first paths entries) (n : ℕ) (events : List Event) (there : slice_get paths n ≡ Some events) where

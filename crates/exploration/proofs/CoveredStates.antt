@@ -2,7 +2,7 @@
 use Rattle.std.proofs.Common.{Contains, ◌≡◌, ◌⊎◌, ℕ, Bool, true, false, List, [], ◌∷◌, map, Some, refl, inl, inr, sym, ap, ◌∙◌, subst}
 use Rattle.interleaving_core.proofs.simulation.Threads.Joins.{lives_alike}
 use Rattle.interleaving_core.proofs.simulation.Representation.VisibleState.{ends_refine, printed_refines}
-use Rattle.exploration.proofs.Names.{Step, Budget, Report, Blocked, Ran, HasEnded, Limits, Tree, is_refusal, State, is_live_state, Answers, step, end_of, is_live_at, ThreadStatus, Live, Ended, Thread, Agree, MachineState, IsTransition, step_is_followed, IsLagging, IsStatusLagging, IsThreadLagging, IsClosed, IsSeen, LeadsInto, CannotStep, IsTerminal, IsOver, ShownOutcome, ShowOnly, outcome_of, outcome_shown}
+use Rattle.exploration.proofs.Names.{Step, Budget, Report, Blocked, Ran, HasEnded, Limits, Tree, is_refusal, State, is_live_state, Answers, step, end_of, is_live_at, ThreadStatus, Live, Ended, Thread, Agree, MachineState, IsTransition, step_is_followed, IsLagging, IsStatusLagging, IsThreadLagging, IsClosed, IsCoveredState, LeadsInto, CannotStep, IsTerminal, IsOver, ShownOutcome, ShowOnly, outcome_of, outcome_shown}
 use Rattle.exploration.proofs.CoveredRuns.{same_answer}
 use Rattle.exploration.proofs.ChargedSteps.{live_alike}
 use Rattle.exploration.proofs.LaggingSteps.{stays_lagging}
@@ -23,7 +23,7 @@ lagging_ends tree (x ∷ xs) [] h = elim h [ ]
 
 -- ---- no thread can continue
 
-module _ (tree : Tree) (limits : Limits) (known : MachineState → Type 0) (closed : IsClosed known) (s : State) (seen : IsSeen tree limits known s) where
+module _ (tree : Tree) (limits : Limits) (known : MachineState → Type 0) (closed : IsClosed known) (s : State) (seen : IsCoveredState tree limits known s) where
   abbrev c : MachineState
   c = seen.machine_state
 
@@ -47,7 +47,7 @@ module _ (tree : Tree) (limits : Limits) (known : MachineState → Type 0) (clos
   blocked_there t live next blocked =
       let live_c : is_live_at c.threads t ≡ true = lives_in_both t ∙ live in
       let leads : LeadsInto known d t = closed d seen.covered.among t live in
-      let one = stays_lagging c d seen.covered.lagging t live_c leads.next leads.report leads.transition leads.lasts in
+      let one = stays_lagging c d seen.covered.lagging t live_c leads.next leads.report leads.transition leads.within_budget in
       let follows = step_is_followed c s seen.represents t (one.0, one.1) one.2 in
       by_step leads one.0 one.1 follows.0 next follows.1 blocked one.3
     where
@@ -62,7 +62,7 @@ module _ (tree : Tree) (limits : Limits) (known : MachineState → Type 0) (clos
           let no : Ran ≡ Blocked = sym own.0 ∙ is in
           absurd (cc no)
       by_step leads after q u next does blocked (inr (inr both)) =
-          let is : q ≡ Blocked = blocked_is q u next (is_refusal leads.report) (ap is_refusal both.0) leads.granted t does blocked in
+          let is : q ≡ Blocked = blocked_is q u next (is_refusal leads.report) (ap is_refusal both.0) leads.not_refused t does blocked in
           (leads.next, transition_is leads.next leads.report q t leads.transition both.0 is)
 
   over : IsOver tree limits s → IsTerminal d

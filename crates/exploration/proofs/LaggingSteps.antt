@@ -31,7 +31,7 @@ agree_before R (z ∷ zs) [] h n x y is r = elim h [ ]
 
 -- ---- the step
 
-module _ (c : MachineState) (ts : List Thread) (agree : Agree (IsThreadLagging c.tree) c.threads ts) (t left : ℕ) (m : Frames) (there : slice_get c.threads t ≡ Some (live_thread left m)) (next : MachineState) (r : Report) (lasts : r ≢ HasEnded Budget) where
+module _ (c : MachineState) (ts : List Thread) (agree : Agree (IsThreadLagging c.tree) c.threads ts) (t left : ℕ) (m : Frames) (there : slice_get c.threads t ≡ Some (live_thread left m)) (next : MachineState) (r : Report) (within_budget : r ≢ HasEnded Budget) where
   abbrev d : MachineState
   d = record c { threads = ts }
 
@@ -47,7 +47,7 @@ module _ (c : MachineState) (ts : List Thread) (agree : Agree (IsThreadLagging c
   same_step left' (a, done, is) =
       let b : MachineState = left_by c t left a in
       let us : List Thread = slice_set ts t (live_thread left' a.frames) in
-      let one = finish_alike b us (agree_set (IsThreadLagging c.tree) c.threads ts agree t (live_thread left a.frames) (live_thread left' a.frames) (here a.frames)) t left left' a.frames (next, r) lasts a.outcome is in
+      let one = finish_alike b us (agree_set (IsThreadLagging c.tree) c.threads ts agree t (live_thread left a.frames) (live_thread left' a.frames) (here a.frames)) t left left' a.frames (next, r) within_budget a.outcome is in
       (one.0.0, one.0.1, transition_of one.0 (a, done, one.1), by_transitions one.0 one.2)
     where
       by_transitions : (x : MachineState × Report) → TransitionsAlike x (next, r) → (x.1 ≡ HasEnded Budget) ⊎ (((x.1 ≡ Ran) × IsLagging x.0 d) ⊎ ((x.1 ≡ r) × IsLagging x.0 next))
@@ -96,7 +96,7 @@ module _ (c : MachineState) (ts : List Thread) (agree : Agree (IsThreadLagging c
 -- whatever the second machine is
 pub stays_lagging : (c d : MachineState) → IsLagging c d → (t : ℕ) → is_live_at c.threads t ≡ true → (next : MachineState) (r : Report) → IsTransition d (Step t) (next, r) → r ≢ HasEnded Budget →
     (after : MachineState) × (q : Report) × IsTransition c (Step t) (after, q) × ((q ≡ HasEnded Budget) ⊎ (((q ≡ Ran) × IsLagging after d) ⊎ ((q ≡ r) × IsLagging after next)))
-stays_lagging c d lagging t live next r transition lasts =
+stays_lagging c d lagging t live next r transition within_budget =
     let l = live_there c.threads t live in
     subst (λ (x : MachineState). IsTransition x (Step t) (next, r) → (after : MachineState) × (q : Report) × IsTransition c (Step t) (after, q) × ((q ≡ HasEnded Budget) ⊎ (((q ≡ Ran) × IsLagging after x) ⊎ ((q ≡ r) × IsLagging after next))))
-    (sym lagging.rest) (steps_lagging c d.threads lagging.threads t l.0 l.1 l.2 next r lasts) transition
+    (sym lagging.rest) (steps_lagging c d.threads lagging.threads t l.0 l.1 l.2 next r within_budget) transition

@@ -1,9 +1,9 @@
 -- The names that the proofs of this crate cite, passed on from one place. Declares nothing.
 pub use Rattle.exploration.specs.CheckedSteps.{AreAllChecked, AreEntries, IsLedToBy, IsStepChecked, IsStepInto}
-pub use Rattle.exploration.specs.Lagging.{IsLagging, IsAhead, here, onward, IsStatusLagging, IsThreadLagging, IsLocalMove}
+pub use Rattle.exploration.specs.LaggingMachines.{IsLagging, IsAhead, here, onward, IsStatusLagging, IsThreadLagging, IsLocalMove}
 pub use Rattle.exploration.specs.Paths.{AreFirstChecked, AreStepsChecked, IsNotTerminalAt, LeadsTo, events_of, IsReal, IsTerminalAt, CanStepAt, CannotStepAt, ShowsOneOf, outcome_found}
-pub use Rattle.exploration.specs.Searches.{IsLedTo, LeadsInto, IsCovered, IsClosed, AreOrdinary, IsSeen, KeepBudgets}
-pub use Rattle.exploration.specs.Shown.{CannotStep, IsTerminal, ShownOutcome, ShowOnly, outcome_shown, IsOver, outcome_of}
+pub use Rattle.exploration.specs.Searches.{IsLedTo, LeadsInto, IsCovered, IsClosed, AreOrdinary, IsCoveredState, KeepBudgets}
+pub use Rattle.exploration.specs.TerminalOutcomes.{CannotStep, IsTerminal, ShownOutcome, ShowOnly, outcome_shown, IsOver, outcome_of}
 pub use Rattle.exploration.specs.declared.found_outcomes.FoundOutcome.{FoundOutcome}
 pub use Rattle.exploration.specs.declared.found_outcomes.Path.{Path}
 pub use Rattle.interleaving_core.proofs.simulation.ListLaws.AgreeingLists.{agree_append, agree_length, agree_set, agree_at}

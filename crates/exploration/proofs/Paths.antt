@@ -92,8 +92,8 @@ pub is_real : (first : MachineState) (found : FoundOutcome) (c : MachineState) â
 is_real first found c led one h shows = record {
   machine_state = c;
   leads = led;
-  ends = subst IsTerminal (led_together first one found.events.items h.0 c h.1 led) h.2;
-  shows = shows;
+  terminal = subst IsTerminal (led_together first one found.events.items h.0 c h.1 led) h.2;
+  outcome = shows;
 }
 
 -- an outcome of a list

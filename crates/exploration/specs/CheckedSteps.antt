@@ -8,7 +8,7 @@ use Rattle.interleaving_core.specs.simulation.threads_monitors.Threads.{is_live_
 use Rattle.interleaving_core.specs.simulation.MachineStates.{MachineState}
 use Rattle.exploration.specs.Paths.{LeadsTo}
 use Rattle.exploration.specs.Searches.{IsLedTo, LeadsInto}
-use Rattle.exploration.specs.Shown.{CannotStep}
+use Rattle.exploration.specs.TerminalOutcomes.{CannotStep}
 
 -- after the events, the step of the live thread leads to a machine state that lags behind this one; if `can` is true, it is not blocked
 pub record IsStepInto (first : MachineState) (events : List Event) (t : ℕ) (target : MachineState) (can : Bool) : Type 0 where
@@ -17,7 +17,7 @@ pub record IsStepInto (first : MachineState) (events : List Event) (t : ℕ) (ta
   pub few : length machine_state.threads ≤ MOST_THREADS
   pub live : is_live_at machine_state.threads t ≡ true
   pub into : LeadsInto (λ c. c ≡ target) machine_state t
-  pub made : can ≡ true → into.report ≢ Blocked
+  pub not_blocked : can ≡ true → into.report ≢ Blocked
 
 -- the list of events at this index leads to the machine state
 abbrev pub IsLedToBy : MachineState → List (List Event) → ℕ → MachineState → Type 0

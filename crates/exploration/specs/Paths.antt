@@ -6,7 +6,7 @@ use Rattle.interleaving_core.specs.simulation.threads_monitors.Threads.{is_live_
 use Rattle.interleaving_core.specs.simulation.MachineStates.{MachineState}
 use Rattle.interleaving_core.specs.simulation.Runs.{AreTransitions}
 use Rattle.exploration.specs.Searches.{IsClosed, IsCovered, IsLedTo, LeadsInto}
-use Rattle.exploration.specs.Shown.{CannotStep, IsTerminal, ShownOutcome, ShowOnly, outcome_shown}
+use Rattle.exploration.specs.TerminalOutcomes.{CannotStep, IsTerminal, ShownOutcome, ShowOnly, outcome_shown}
 use Rattle.exploration.specs.declared.found_outcomes.FoundOutcome.{FoundOutcome}
 use Rattle.exploration.specs.declared.found_outcomes.Path.{Path}
 
@@ -57,8 +57,8 @@ AreFirstChecked first paths outcomes count = (n : ℕ) → n < count → (events
 pub record IsReal (first : MachineState) (found : FoundOutcome) : Type 0 where
   pub machine_state : MachineState
   pub leads : LeadsTo first found.events.items machine_state
-  pub ends : IsTerminal machine_state
-  pub shows : outcome_shown machine_state ≡ outcome_found found
+  pub terminal : IsTerminal machine_state
+  pub outcome : outcome_shown machine_state ≡ outcome_found found
 
 -- ---- the whole
 
@@ -66,5 +66,5 @@ pub record IsReal (first : MachineState) (found : FoundOutcome) : Type 0 where
 -- step show these outcomes alone
 pub record IsComplete (first : MachineState) (paths : List (List Event)) (outcomes : List ShownOutcome) : Type 0 where
   pub closed : IsClosed (IsLedTo first paths)
-  pub begins : IsCovered (IsLedTo first paths) first
+  pub initial : IsCovered (IsLedTo first paths) first
   pub only : ShowOnly (IsLedTo first paths) outcomes

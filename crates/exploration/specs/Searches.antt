@@ -14,7 +14,7 @@ use Rattle.interleaving_core.specs.simulation.MachineStates.{MachineState}
 use Rattle.interleaving_core.specs.simulation.Refines.{Represents}
 use Rattle.interleaving_core.specs.simulation.Runs.{AreTransitions}
 use Rattle.interleaving_core.specs.simulation.Transitions.{IsTransition}
-use Rattle.exploration.specs.Lagging.{IsLagging}
+use Rattle.exploration.specs.LaggingMachines.{IsLagging}
 
 -- a machine state lags behind one of a set
 pub record IsCovered (known : MachineState → Type 0) (c : MachineState) : Type 0 where
@@ -27,8 +27,8 @@ pub record LeadsInto (known : MachineState → Type 0) (c : MachineState) (t : �
   pub next : MachineState
   pub report : Report
   pub transition : IsTransition c (Step t) (next, report)
-  pub lasts : report ≢ Ended Budget
-  pub granted : is_refusal report ≡ false
+  pub within_budget : report ≢ Ended Budget
+  pub not_refused : is_refusal report ≡ false
   pub covered : IsCovered known next
 
 -- so does each step of a live thread, from each machine state of the set
@@ -45,8 +45,8 @@ abbrev pub KeepBudgets : List Report → Type 0
 KeepBudgets [] = Unit {0}
 KeepBudgets (r ∷ rs) = (r ≢ Ended Budget) × KeepBudgets rs
 
--- a machine of this program within these limits, at a machine state behind one of the set, represents the state
-pub record IsSeen (tree : Tree) (limits : Limits) (known : MachineState → Type 0) (s : State) : Type 0 where
+-- a machine of this program within these limits, whose machine state lags behind one of the set, represents the state
+pub record IsCoveredState (tree : Tree) (limits : Limits) (known : MachineState → Type 0) (s : State) : Type 0 where
   pub machine_state : MachineState
   pub program : machine_state.tree ≡ tree
   pub within : machine_state.limits ≡ limits

@@ -10,7 +10,7 @@ ghost use Rattle.interleaving_core.specs.simulation.reference_machine.Runs.{is_r
 ghost use Rattle.exploration.specs.Paths.{AreFirstChecked, IsNotTerminalAt, IsTerminalAt, CanStepAt, IsComplete, IsReal, CannotStepAt, AreStepsChecked, ShowsOneOf, events_of, outcome_found};
 ghost use Rattle.exploration.specs.CheckedSteps.{AreAllChecked, AreEntries, IsLedToBy, IsStepInto};
 ghost use Rattle.exploration.specs.Searches.{IsClosed, IsCovered, IsLedTo};
-ghost use Rattle.exploration.specs.Shown.{ShowOnly, outcome_shown};
+ghost use Rattle.exploration.specs.TerminalOutcomes.{ShowOnly, outcome_shown};
 ghost use Rattle.exploration.specs.declared.found_outcomes.FoundOutcome.{FoundOutcome as AnyFoundOutcome};
 
 use crate::found_outcomes::{FoundOutcome, Path, PathStep};

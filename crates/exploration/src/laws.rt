@@ -18,9 +18,9 @@ ghost use Rattle.interleaving_core.specs.simulation.Refines.{Represents};
 ghost use Rattle.interleaving_core.specs.simulation.Transitions.{IsTransition, initial_machine_state};
 ghost use Rattle.interleaving_core.specs.simulation.interpreter.Local.{IsLocalStep, frames_over};
 ghost use Rattle.interleaving_core.specs.simulation.threads_monitors.Frames.{Frame};
-ghost use Rattle.exploration.specs.Lagging.{IsLagging, IsLocalMove};
-ghost use Rattle.exploration.specs.Shown.{IsTerminal, IsOver, ShownOutcome, ShowOnly, outcome_of, outcome_shown};
-ghost use Rattle.exploration.specs.Searches.{AreOrdinary, IsClosed, IsCovered, IsLedTo, IsSeen, KeepBudgets};
+ghost use Rattle.exploration.specs.LaggingMachines.{IsLagging, IsLocalMove};
+ghost use Rattle.exploration.specs.TerminalOutcomes.{IsTerminal, IsOver, ShownOutcome, ShowOnly, outcome_of, outcome_shown};
+ghost use Rattle.exploration.specs.Searches.{AreOrdinary, IsClosed, IsCovered, IsLedTo, IsCoveredState, KeepBudgets};
 
 /// One machine lags behind another, and a thread makes a step in both. Then the step of the first is a local instruction, and it still lags behind the other
 /// machine as that was; or both steps have the same report, and the first lags behind the second again; or it uses up its budget.
@@ -33,13 +33,13 @@ pub fn a_lagging_machine_stays_lagging()
 /// machine state of the set represents that state, and no step was refused memory. This holds up to the first step that uses up a budget.
 pub fn a_closed_set_covers_all_runs()
     ensures { (tree : Tree) (limits : Limits) (first : MachineState) (paths : List (List Event)) → IsClosed (IsLedTo first paths) → (s : State) → initial_machine_state tree limits ≡ Some first → initial_state tree limits ≡ Some s → Represents first s → IsCovered (IsLedTo first paths) first →
-        (events : List Event) (reports : List Report) (last : State) → IsRunOf tree limits events reports last → KeepBudgets reports → IsSeen tree limits (IsLedTo first paths) last × AreOrdinary reports }
+        (events : List Event) (reports : List Report) (last : State) → IsRunOf tree limits events reports last → KeepBudgets reports → IsCoveredState tree limits (IsLedTo first paths) last × AreOrdinary reports }
 {}
 
 /// A state that a closed set covers has the outcome of a machine state of the set: the same printed bytes, and the same end of each thread. If no thread can
 /// make a step in that state, none can in the machine state.
 pub fn a_covered_state_is_shown()
-    ensures { (tree : Tree) (limits : Limits) (first : MachineState) (paths : List (List Event)) → IsClosed (IsLedTo first paths) → (s : State) → IsSeen tree limits (IsLedTo first paths) s →
+    ensures { (tree : Tree) (limits : Limits) (first : MachineState) (paths : List (List Event)) → IsClosed (IsLedTo first paths) → (s : State) → IsCoveredState tree limits (IsLedTo first paths) s →
         (c : MachineState) × IsLedTo first paths c × (outcome_shown c ≡ outcome_of s) × (IsOver tree limits s → IsTerminal c) }
 {}
 

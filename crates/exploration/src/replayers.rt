@@ -8,10 +8,10 @@ ghost use Rattle.interleaving_core.specs.simulation.threads_monitors.Threads.{is
 ghost use Rattle.interleaving_core.specs.simulation.Transitions.{IsTransition};
 ghost use Rattle.interleaving_core.specs.Alike.{AreAlike};
 ghost use Rattle.interleaving_core.specs.Waits.{wait_at};
-ghost use Rattle.exploration.specs.Begins.{Begins};
-ghost use Rattle.exploration.specs.Lagging.{IsLagging};
+ghost use Rattle.exploration.specs.InitialStates.{HasInitialState};
+ghost use Rattle.exploration.specs.LaggingMachines.{IsLagging};
 ghost use Rattle.exploration.specs.Paths.{LeadsTo, outcome_found};
-ghost use Rattle.exploration.specs.Shown.{outcome_shown};
+ghost use Rattle.exploration.specs.TerminalOutcomes.{outcome_shown};
 
 use crate::found_outcomes::FoundOutcome;
 use cil_model::events::Event;
@@ -49,19 +49,19 @@ pub struct Replayer<M: First> {
 
 impl<M: First> Model for Replayer<M> {
     ghost use Rattle.interleaving_core.specs.simulation.MachineStates.{MachineState};
-    ghost use Rattle.exploration.specs.Begins.{Begins};
+    ghost use Rattle.exploration.specs.InitialStates.{HasInitialState};
 
     ghost Value = { MachineState };
 
     ghost view = { λ s. s.machine };
 
-    ghost invariant = { λ s. Begins s.machine M.first };
+    ghost invariant = { λ s. HasInitialState s.machine M.first };
 }
 
 impl<M: First> Replayer<M> {
     /// A replayer of this machine.
     pub fn new(alloc: Global, machine: Machine) -> Replayer<M>
-        requires { Begins machine M.first }
+        requires { HasInitialState machine M.first }
         ensures { result ≡ machine }
     {
         Replayer {

@@ -7,7 +7,7 @@ use Rattle.cil_model.specs.declared.trees.Tree.{Tree}
 use Rattle.acceptance.specs.Sources.{HasRunTo, IsAcceptedSource}
 use Rattle.exploration.specs.Paths.{IsComplete, outcome_found}
 use Rattle.exploration.specs.Searches.{KeepBudgets}
-use Rattle.exploration.specs.Shown.{IsOver, IsTerminal, ShownOutcome, outcome_of, outcome_shown}
+use Rattle.exploration.specs.TerminalOutcomes.{IsOver, IsTerminal, ShownOutcome, outcome_of, outcome_shown}
 use Rattle.exploration.specs.declared.found_outcomes.FoundOutcome.{FoundOutcome}
 use Rattle.exploration.specs.simulation.MachineStates.{MachineState}
 use Rattle.exploration.specs.simulation.Runs.{IsRunOf}
@@ -26,8 +26,8 @@ HasAllOutcomes source limits outcomes =
 
 -- no thread can make a step, and the machine shows the outcome
 pub record IsEnd (machine_state : MachineState) (found : FoundOutcome) : Type 0 where
-  pub ends : IsTerminal machine_state
-  pub shows : outcome_shown machine_state ≡ outcome_found found
+  pub terminal : IsTerminal machine_state
+  pub outcome : outcome_shown machine_state ≡ outcome_found found
 
 -- a machine that was made for the source has done the events of the schedule of an outcome, and shows it
 abbrev pub IsFoundIn : List ℕ → Limits → FoundOutcome → Type 0

@@ -3,7 +3,7 @@
 ghost use Rattle.std.specs.Prelude.{◌≡◌, IfErr, IfOk, Some, ℕ, map, slice_get, true};
 ghost use Rattle.acceptance.specs.Sources.{HasAcceptedTree, IsNotRun};
 ghost use Rattle.exploration.specs.simulation.cil_model.Legality.{IsLegal};
-ghost use Rattle.exploration.specs.Begins.{Begins};
+ghost use Rattle.exploration.specs.InitialStates.{HasInitialState};
 ghost use Rattle.exploration.specs.Paths.{IsReal, outcome_found};
 ghost use Rattle.exploration.specs.declared.found_outcomes.FoundOutcome.{FoundOutcome as AnyFoundOutcome};
 ghost use Rattle.outcome_search.specs.Explorations.{HasAllOutcomes, IsFoundIn, IsOutcomeList};
@@ -75,8 +75,8 @@ fn explore_machines<M: First>(
     other: Machine,
     bounds: Bounds,
 ) -> Result<Exploration, NoMemory>
-    requires begins { Begins machine M.first }
-    requires other_begins { Begins other M.first }
+    requires initial { HasInitialState machine M.first }
+    requires other_initial { HasInitialState other M.first }
     requires legal { IsLegal M.first.tree }
     ensures complete { IfOk result (λ e. e.is_complete ≡ true → IsOutcomeList M.first (map outcome_found e.found.items)) }
     ensures real { IfOk result (λ e. (n : ℕ) (f : AnyFoundOutcome) → slice_get e.found.items n ≡ Some f → IsReal M.first f) }

@@ -13,8 +13,8 @@ returns g c = λ can is. record {
     next = c.step.new.self;
     report = c.in_ok-report.report;
     transition = c.in_ok-report.ensures;
-    lasts = (c.is_ordinary.ensures c.if-not-is_ordinary.false).0;
-    granted = (c.is_ordinary.ensures c.if-not-is_ordinary.false).1;
+    within_budget = (c.is_ordinary.ensures c.if-not-is_ordinary.false).0;
+    not_refused = (c.is_ordinary.ensures c.if-not-is_ordinary.false).1;
     covered = record {
       machine_state = c.args.other.now;
       among = refl;
@@ -22,5 +22,5 @@ returns g c = λ can is. record {
           (lagging_more c.run_local.new.self c.run_local-2.new.self c.args.other.now c.in_ok-run_local-2.ensures (alike_lagging c.run_local-2.new.self c.args.other.now (c.is_like-is_known.ensures c.if-not-is_known.false)));
     };
   };
-  made = λ yes. c.is_made.ensures (same_Some c.is_made.result can is ∙ yes);
+  not_blocked = λ yes. c.is_made.ensures (same_Some c.is_made.result can is ∙ yes);
 }

@@ -4,5 +4,5 @@ use Rattle.interleaving_core.specs.simulation.MachineStates.{MachineState}
 use Rattle.interleaving_core.specs.simulation.Transitions.{initial_machine_state}
 
 -- the second machine state is the initial machine state of a machine with the program and the limits of the first
-abbrev pub Begins : MachineState → MachineState → Type 0
-Begins c first = initial_machine_state c.tree c.limits ≡ Some first
+abbrev pub HasInitialState : MachineState → MachineState → Type 0
+HasInitialState c first = initial_machine_state c.tree c.limits ≡ Some first
