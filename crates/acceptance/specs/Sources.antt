@@ -56,7 +56,7 @@ IsNotRun source limits failure = IsNotAccepted source failure ⊎ (HasAcceptedTr
 pub record IsOpened (tree : Tree) (limits : Limits) (machine : MachineState) : Type 0 where
   pub same_program : machine.tree ≡ tree
   pub same_limits : machine.limits ≡ limits
-  pub begins : initial_machine_state tree limits ≡ Some machine
+  pub initial : initial_machine_state tree limits ≡ Some machine
   pub represents : (state : State) × (initial_state tree limits ≡ Some state) × Represents machine state
 
 -- the bytes have a tree that is an accepted program, and a machine was made for it, which has done nothing

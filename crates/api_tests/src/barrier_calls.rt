@@ -15,7 +15,7 @@ use std::alloc::Global;
 /// What is seen of the heap and the static fields in a phase, once each barrier was called. References are given by their words, and
 /// 0 is null or none.
 #[derive(Clone, Copy, PartialEq)]
-struct Row {
+struct Observation {
     phase: Phase,
     /// The slots of the old copy of the object that is stored to, and those of the new copy.
     old: [u64; 6],
@@ -61,8 +61,8 @@ const TWICE: Monitor = Monitor::Held { owner: 4, count: 2 };
 
 const THRICE: Monitor = Monitor::Held { owner: 5, count: 3 };
 
-const ROWS: [Row; 8] = [
-    Row {
+const EXPECTED: [Observation; 8] = [
+    Observation {
         phase: Phase::Idle,
         old: [GUEST, 0, WHITE, 0, 9, 0],
         new: [0, GUEST, 0, TEXT, 0, 8],
@@ -75,7 +75,7 @@ const ROWS: [Row; 8] = [
         born: [BORN, 0],
         born_marks: [false, false],
     },
-    Row {
+    Observation {
         phase: Phase::Mark,
         old: [GUEST, 0, WHITE, 0, 9, 0],
         new: [0, GUEST, 0, TEXT, 0, 8],
@@ -88,7 +88,7 @@ const ROWS: [Row; 8] = [
         born: [BORN, 0],
         born_marks: [true, false],
     },
-    Row {
+    Observation {
         phase: Phase::Allocate,
         old: [GUEST, 0, WHITE, 0, 9, 0],
         new: [0, GUEST, 0, TEXT, 0, 8],
@@ -101,7 +101,7 @@ const ROWS: [Row; 8] = [
         born: [BORN, BORN_COPIED],
         born_marks: [true, true],
     },
-    Row {
+    Observation {
         phase: Phase::Copy,
         old: [GUEST, GUEST, WHITE, TEXT, 9, 8],
         new: [GUEST_COPIED, GUEST_COPIED, WHITE, TEXT, 9, 8],
@@ -114,7 +114,7 @@ const ROWS: [Row; 8] = [
         born: [BORN, BORN_COPIED],
         born_marks: [true, true],
     },
-    Row {
+    Observation {
         phase: Phase::PreFlip,
         old: [GUEST, GUEST, WHITE, TEXT, 9, 8],
         new: [GUEST_COPIED, GUEST_COPIED, WHITE, TEXT, 9, 8],
@@ -127,7 +127,7 @@ const ROWS: [Row; 8] = [
         born: [BORN, BORN_COPIED],
         born_marks: [true, true],
     },
-    Row {
+    Observation {
         phase: Phase::HeapFlip,
         old: [GUEST, GUEST, WHITE, TEXT, 9, 8],
         new: [GUEST_COPIED, GUEST_COPIED, WHITE, TEXT, 9, 8],
@@ -140,7 +140,7 @@ const ROWS: [Row; 8] = [
         born: [BORN, BORN_COPIED],
         born_marks: [true, true],
     },
-    Row {
+    Observation {
         phase: Phase::ThreadFlip,
         old: [GUEST, GUEST, WHITE, TEXT, 9, 8],
         new: [GUEST, GUEST, WHITE, TEXT, 9, 8],
@@ -153,7 +153,7 @@ const ROWS: [Row; 8] = [
         born: [BORN_COPIED, 0],
         born_marks: [false, false],
     },
-    Row {
+    Observation {
         phase: Phase::Reclaim,
         old: [GUEST, 0, WHITE, 0, 9, 0],
         new: [0, GUEST, 0, TEXT, 0, 8],
@@ -169,9 +169,9 @@ const ROWS: [Row; 8] = [
 ];
 
 /// Whether each barrier does in each phase what the test case of the phase shows.
-pub fn barriers_do_as_shown(alloc: Global) -> Result<bool, NoMemory> {
-    for row in ROWS {
-        if !is_as_shown(alloc, &row)? {
+pub fn barriers_match_expected(alloc: Global) -> Result<bool, NoMemory> {
+    for expected in EXPECTED {
+        if !matches_expected(alloc, &expected)? {
             return Ok(false);
         }
     }
@@ -179,12 +179,12 @@ pub fn barriers_do_as_shown(alloc: Global) -> Result<bool, NoMemory> {
 }
 
 /// Calls each barrier in the phase of a test case, over a heap of its own, and compares what is seen then.
-fn is_as_shown(alloc: Global, row: &Row) -> Result<bool, NoMemory> {
+fn matches_expected(alloc: Global, expected: &Observation) -> Result<bool, NoMemory> {
     let mut heap = test_heap(alloc)?;
     let mut statics = [Value::Ref(Addr::null()), Value::Ref(Addr::null())];
-    store_slots(&mut heap, row.phase);
-    let born = store_others(&mut heap, row.phase, &mut statics);
-    Ok(observe(&mut heap, row.phase, &statics, born) == *row)
+    store_slots(&mut heap, expected.phase);
+    let born = store_others(&mut heap, expected.phase, &mut statics);
+    Ok(observe(&mut heap, expected.phase, &statics, born) == *expected)
 }
 
 /// Stores to the slots of both copies of an object.
@@ -244,12 +244,12 @@ fn address(word: u64) -> Addr
 }
 
 /// What is seen. The grey list is emptied.
-fn observe(heap: &mut Heap, phase: Phase, statics: &[Value; 2], born: Option<Addr>) -> Row
+fn observe(heap: &mut Heap, phase: Phase, statics: &[Value; 2], born: Option<Addr>) -> Observation
     requires { IsSeen phase heap.old born }
 {
     let (host, host_copied, guest) = (address(HOST), address(HOST_COPIED), address(GUEST));
     let other = other(heap, born);
-    Row {
+    Observation {
         phase,
         old: slots(heap, host),
         new: slots(heap, host_copied),

@@ -4,7 +4,7 @@ ghost use Rattle.std.specs.Prelude.{◌≡◌, map};
 ghost use Rattle.cil_model.specs.Declarations.{built_ins};
 ghost use Rattle.name_tables.specs.BuiltInTable.{built_in_entry};
 
-use crate::barrier_calls::barriers_do_as_shown;
+use crate::barrier_calls::barriers_match_expected;
 use crate::epochs::{counts_in_transition, threads_see_every_epoch};
 use cil_model::events::Event;
 use cil_model::limits::Limits;
@@ -96,7 +96,7 @@ pub fn calls(threads: &(impl Threads + Sync), alloc: Global) -> [Call; 11] {
         ),
         call_result(
             "barriers in each phase",
-            barriers_do_as_shown(alloc).unwrap_or(false),
+            barriers_match_expected(alloc).unwrap_or(false),
         ),
     ]
 }

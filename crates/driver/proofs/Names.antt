@@ -6,7 +6,7 @@ pub use Rattle.cil_model.specs.declared.reports.Report.{Report}
 pub use Rattle.commands.specs.Orders.{event_count, record_file_of}
 pub use Rattle.driver.specs.Explorations.{IsNotPictured, first_other, first_other_in, is_other, HasExplored, AreSaved, status_of_exploration, IsOutcomeText, IsShownBelow}
 pub use Rattle.driver.specs.Outcomes.{IsEndText, IsMachineShown, IsMachineShownInPart, IsRunShown, IsRunShownInPart, HasNotExplored, AreCut, AreEndsExplainedFor, AreNotesShownInPart, AreThreadsExplained, HasRunSource, HasTraced, IsExplanation, IsRun, IsRunInPart, IsRunText, IsShown, IsThreadText, IsTracedAndRunInPart, status_after, stop_text, AreThreadsShown, AreThreadsShownInPart, HasDrawn, IsPicturedAndRunInPart, IsRunDrawn, HasRunThreads, HaveEnded, IsOutcome, IsRunByWorkers, IsRunByWorkersInPart, IsRunDone, HasNotTraced, IsPictureCut, IsNotChecked, IsDrawn, IsDrawnInPart, IsTracedUpTo, HasNotRun, HasNotRunThreads, flip_text, IsTraceInPart}
-pub use Rattle.driver.specs.Outputs.{OutputState, HasBroken, IsGivenUp, IsUntouched, output_state}
+pub use Rattle.driver.specs.Outputs.{OutputState, HasFailedWrite, IsGivenUp, IsUntouched, output_state}
 pub use Rattle.driver.specs.Pictures.{window_of, too_many_text}
 pub use Rattle.driver.specs.Records.{IsRecordOf, is_short, status_with, texts_in, texts_over, too_long_text, texts_of}
 pub use Rattle.driver.specs.Replays.{differences_from, differences_text, status_if_same}

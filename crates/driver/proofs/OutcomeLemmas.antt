@@ -2,7 +2,7 @@
 use Rattle.std.proofs.Common.{◌≡◌, ◌⊎◌, ◌++◌, ℕ, Bool, true, false, List, [], map, None, Option, Result, Ok, Err, refl, ap, ap₂, sym, ◌∙◌, subst, inl, inr, append-nil}
 use Rattle.std.specs.Prelude.{IfErr, IfSome, OnErr}
 use Rattle.run_files.specs.declared.differences.Differences.{Differences}
-use Rattle.driver.proofs.Names.{zip, ends_refine, printed_refines, MachineState, RefinesAfter, Represents, end_of, State, Event, Limits, Report, IsOfWriting, is_refusal, Failure, Memory, Device, IsTraced, IsPrintedUpTo, IsReady, IsRunBy, HasBroken, IsGivenUp, IsUntouched, OutputState, AreCut, AreEndsExplainedFor, AreNotesShownInPart, AreThreadsExplained, HasRunSource, HasTraced, IsEndText, IsExplanation, IsMachineShown, IsMachineShownInPart, IsRun, IsRunInPart, IsRunShown, IsRunShownInPart, IsRunText, IsShown, IsThreadText, IsTracedAndRunInPart, status_after, stop_text, differences_from, differences_text, status_if_same, IsMostOfRun, stats_text, RunFile, ends_of, lines_from, status_of, Fails, HasGrown, StreamState, Takes, fails_first, fails_second, takes_both, results_in, has_done, HasDone}
+use Rattle.driver.proofs.Names.{zip, ends_refine, printed_refines, MachineState, RefinesAfter, Represents, end_of, State, Event, Limits, Report, IsOfWriting, is_refusal, Failure, Memory, Device, IsTraced, IsPrintedUpTo, IsReady, IsRunBy, HasFailedWrite, IsGivenUp, IsUntouched, OutputState, AreCut, AreEndsExplainedFor, AreNotesShownInPart, AreThreadsExplained, HasRunSource, HasTraced, IsEndText, IsExplanation, IsMachineShown, IsMachineShownInPart, IsRun, IsRunInPart, IsRunShown, IsRunShownInPart, IsRunText, IsShown, IsThreadText, IsTracedAndRunInPart, status_after, stop_text, differences_from, differences_text, status_if_same, IsMostOfRun, stats_text, RunFile, ends_of, lines_from, status_of, Fails, HasGrown, StreamState, Takes, fails_first, fails_second, takes_both, results_in, has_done, HasDone}
 
 pub for_err : {T E : Type 0} {P : Type 0} (r : Result T E) → P → IfErr r (λ _. P)
 for_err (Ok x) p = tt
@@ -58,12 +58,12 @@ pub cut_after : (first second more : List ℕ) (o m : OutputState) (err' : Strea
 cut_after first second more o m err' taken shown cut = inr (taken, fails_second o.err m.err err' second more shown cut)
 
 -- where texts are cut, a write failed
-pub cut_breaks : (first second : List ℕ) (o o' : OutputState) → AreCut first second o o' → HasBroken o o'
+pub cut_breaks : (first second : List ℕ) (o o' : OutputState) → AreCut first second o o' → HasFailedWrite o o'
 cut_breaks first second o o' (inl cut) = inl cut.0.1
 cut_breaks first second o o' (inr cut) = inr cut.1.1
 
 -- a write failed after one output had taken something
-pub breaks_later : (o : OutputState) (between : StreamState) (o' : OutputState) → between.failures ≡ o.out.failures → HasBroken (record o { out = between }) o' → HasBroken o o'
+pub breaks_later : (o : OutputState) (between : StreamState) (o' : OutputState) → between.failures ≡ o.out.failures → HasFailedWrite (record o { out = between }) o' → HasFailedWrite o o'
 breaks_later o between o' same (inl grown) = inl (subst (λ n. HasGrown n o'.out.failures) same grown)
 breaks_later o between o' same (inr grown) = inr grown
 
@@ -168,10 +168,10 @@ module _ (source : List ℕ) (limits : Limits) (text : List ℕ) (most : Option 
 
 -- ---- what a trace shows
 
-module _ (source : List ℕ) (limits : Limits) (text : List ℕ) (explain : Bool) (events : List Event) (begins after : MachineState) (reports : List Report) (o : OutputState) (between : StreamState) (o' : OutputState)
-    (ready : IsReady source limits text events begins) (traced : IsTraced begins events after reports o.out.contents between.contents) where
+module _ (source : List ℕ) (limits : Limits) (text : List ℕ) (explain : Bool) (events : List Event) (initial after : MachineState) (reports : List Report) (o : OutputState) (between : StreamState) (o' : OutputState)
+    (ready : IsReady source limits text events initial) (traced : IsTraced initial events after reports o.out.contents between.contents) where
   abbrev done : HasDone ready.tree limits events reports after
-  done = has_done ready.tree limits begins after events reports ready.is_accepted.accepted ready.in_range ready.opened.begins traced.transitions
+  done = has_done ready.tree limits initial after events reports ready.is_accepted.accepted ready.in_range ready.opened.initial traced.transitions
 
   -- all events are done
   by : IsRunBy source limits text events reports false after
@@ -181,7 +181,7 @@ module _ (source : List ℕ) (limits : Limits) (text : List ℕ) (explain : Bool
   pub traced_in_part : IsMachineShownInPart explain after (record o { out = between }) o' → IsTracedAndRunInPart source limits text explain o o'
   traced_in_part left = record {
     events = events;
-    begins = begins;
+    initial = initial;
     ready = ready;
     after = after;
     reports = reports;
@@ -199,7 +199,7 @@ module _ (source : List ℕ) (limits : Limits) (text : List ℕ) (explain : Bool
         reports = reports;
         state = refines.state;
         results_in = record { are_read = ready.are_read; by_events = record { tree = ready.tree; is_accepted = ready.is_accepted; in_range = ready.in_range; is_run = refines.is_run; budgets = refines.budgets; bounded = done.bounded } };
-        begins = begins;
+        initial = initial;
         opened = ready.opened;
         after = after;
         between = between;
@@ -237,7 +237,7 @@ nothing_written o o' failure reason no_device untouched same = record {
 }
 
 -- as a write failed
-pub write_failed : {IsReason : Failure → Type 0} {IsPart : OutputState → OutputState → Type 0} (o o' : OutputState) (failure : Failure) → IsReason failure → IsOfWriting failure → HasBroken o o'
+pub write_failed : {IsReason : Failure → Type 0} {IsPart : OutputState → OutputState → Type 0} (o o' : OutputState) (failure : Failure) → IsReason failure → IsOfWriting failure → HasFailedWrite o o'
     → IsPart o o' → o'.texts ≡ o.texts → IsGivenUp IsReason IsPart o o' failure
 write_failed o o' failure reason writing broken part same = record {
   reason = reason;

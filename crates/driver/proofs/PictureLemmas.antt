@@ -3,11 +3,11 @@ use Rattle.std.proofs.Common.{◌≡◌, ◌++◌, ◌≤◌, ℕ, Bool, List, l
 use Rattle.commands.specs.declared.part.Part.{Part}
 use Rattle.driver.proofs.Names.{ends_refine, MachineState, IsReady, has_done, HasDone, Event, Limits, Report, event_count, Fails, Takes, IsPicture, MOST_EVENTS, AreThreadsShown, AreThreadsShownInPart, HasDrawn, IsPicturedAndRunInPart, IsRunDrawn, IsThreadText, OutputState, window_of, lines_from, status_of}
 
-module _ (source : List ℕ) (limits : Limits) (text : List ℕ) (part : Part) (explain : Bool) (events : List Event) (begins after : MachineState) (reports : List Report) (o o' : OutputState)
-    (ready : IsReady source limits text events begins) (few : event_count part (length events) ≤ MOST_EVENTS)
-    (pictured : IsPicture begins events after reports (window_of part (length events)) o.out.contents o'.out.contents) (same : o'.texts ≡ o.texts) where
+module _ (source : List ℕ) (limits : Limits) (text : List ℕ) (part : Part) (explain : Bool) (events : List Event) (initial after : MachineState) (reports : List Report) (o o' : OutputState)
+    (ready : IsReady source limits text events initial) (few : event_count part (length events) ≤ MOST_EVENTS)
+    (pictured : IsPicture initial events after reports (window_of part (length events)) o.out.contents o'.out.contents) (same : o'.texts ≡ o.texts) where
   done : HasDone ready.tree limits events reports after
-  done = has_done ready.tree limits begins after events reports ready.is_accepted.accepted ready.in_range ready.opened.begins pictured.transitions
+  done = has_done ready.tree limits initial after events reports ready.is_accepted.accepted ready.in_range ready.opened.initial pictured.transitions
 
   -- what is drawn, with what explains it
   drawn : (explanation : List ℕ) → IsThreadText explain after explanation → IsRunDrawn source limits text part explain o o'
@@ -19,7 +19,7 @@ module _ (source : List ℕ) (limits : Limits) (text : List ℕ) (part : Part) (
         reports = reports;
         state = refines.state;
         results_in = record { are_read = ready.are_read; by_events = record { tree = ready.tree; is_accepted = ready.is_accepted; in_range = ready.in_range; is_run = refines.is_run; budgets = refines.budgets; bounded = done.bounded } };
-        begins = begins;
+        initial = initial;
         opened = ready.opened;
         after = after;
         pictured = pictured;

@@ -66,7 +66,7 @@ IsThreadText true c text = (text ≡ []) ⊎ AreThreadsExplained c text
 
 -- the text on the threads that a fault or their budget ended in these events with their reports, which a new machine of the source performs
 abbrev pub AreEndsExplainedFor : List ℕ → Limits → List (Event × Report) → List ℕ → Type 0
-AreEndsExplainedFor source limits events text = (begins : MachineState) × IsMade source limits begins × AreEndsExplained source begins events text
+AreEndsExplainedFor source limits events text = (initial : MachineState) × IsMade source limits initial × AreEndsExplained source initial events text
 
 -- that text, if it is asked for, unless memory runs out; else nothing
 abbrev pub IsEndText : Bool → List ℕ → Limits → List (Event × Report) → List ℕ → Type 0
@@ -216,7 +216,7 @@ abbrev pub failure_of_tracing : TraceError → Failure
 failure_of_tracing MemoryRanOut = Memory
 failure_of_tracing CantWrite = Device
 
--- A run is traced. A machine that holds what the program begins with makes the transitions of the events, with the reports of the run, and a
+-- A run is traced. A machine in the initial state of the program makes the transitions of the events, with the reports of the run, and a
 -- line of each is shown, and an empty line. It then represents the state that the run ends in, and what was printed and the states of its
 -- threads are shown as if it were not traced. Where the last event ends a cycle, the machine has no more words in use than are retained.
 pub record HasTraced (source : List ℕ) (limits : Limits) (text : List ℕ) (explain : Bool) (o o' : OutputState) (status : ℕ) : Type 0 where
@@ -224,11 +224,11 @@ pub record HasTraced (source : List ℕ) (limits : Limits) (text : List ℕ) (ex
   pub reports : List Report
   pub state : State
   pub results_in : ResultsIn source limits text events reports state
-  pub begins : MachineState
-  pub opened : IsOpened results_in.by_events.tree limits begins
+  pub initial : MachineState
+  pub opened : IsOpened results_in.by_events.tree limits initial
   pub after : MachineState
   pub between : StreamState
-  pub traced : IsTraced begins events after reports o.out.contents between.contents
+  pub traced : IsTraced initial events after reports o.out.contents between.contents
   pub represents : Represents after state
   pub leaves : LeavesOnlyRetained results_in.by_events.tree limits events reports after
   pub explanation : List ℕ
@@ -236,7 +236,7 @@ pub record HasTraced (source : List ℕ) (limits : Limits) (text : List ℕ) (ex
   pub shown : IsShown state.printed (ends_of state) explanation (record o { out = between }) o' status
   pub same : o'.texts ≡ o.texts
 
--- A run is drawn. A machine that holds what the program begins with makes the transitions of the events, with the reports of the run, and a
+-- A run is drawn. A machine in the initial state of the program makes the transitions of the events, with the reports of the run, and a
 -- picture of those of a part is shown, which are few. It then represents the state that the run ends in.
 pub record IsRunDrawn (source : List ℕ) (limits : Limits) (text : List ℕ) (part : Part) (explain : Bool) (o o' : OutputState) : Type 0 where
   pub events : List Event
@@ -244,10 +244,10 @@ pub record IsRunDrawn (source : List ℕ) (limits : Limits) (text : List ℕ) (p
   pub reports : List Report
   pub state : State
   pub results_in : ResultsIn source limits text events reports state
-  pub begins : MachineState
-  pub opened : IsOpened results_in.by_events.tree limits begins
+  pub initial : MachineState
+  pub opened : IsOpened results_in.by_events.tree limits initial
   pub after : MachineState
-  pub pictured : IsPicture begins events after reports (window_of part (length events)) o.out.contents o'.out.contents
+  pub pictured : IsPicture initial events after reports (window_of part (length events)) o.out.contents o'.out.contents
   pub represents : Represents after state
   pub explanation : List ℕ
   pub explains : IsThreadText explain after explanation
@@ -264,8 +264,8 @@ pub record HasDrawn (source : List ℕ) (limits : Limits) (text : List ℕ) (par
 -- A picture would have more events than it may. Nothing is run, and their number is reported.
 pub record HasTooMany (source : List ℕ) (limits : Limits) (text : List ℕ) (part : Part) (o o' : OutputState) (status : ℕ) : Type 0 where
   pub events : List Event
-  pub begins : MachineState
-  pub ready : IsReady source limits text events begins
+  pub initial : MachineState
+  pub ready : IsReady source limits text events initial
   pub many : MOST_EVENTS < event_count part (length events)
   pub untouched : o'.out ≡ o.out
   pub reported : Takes o.err o'.err (too_many_text (event_count part (length events)))
@@ -364,31 +364,31 @@ pub record IsRunInPart (source : List ℕ) (limits : Limits) (text : List ℕ) (
 -- a run is traced in part: a prefix of the lines of its first events is shown
 pub record IsTraceInPart (source : List ℕ) (limits : Limits) (text : List ℕ) (o o' : OutputState) : Type 0 where
   pub events : List Event
-  pub begins : MachineState
-  pub ready : IsReady source limits text events begins
+  pub initial : MachineState
+  pub ready : IsReady source limits text events initial
   pub after : MachineState
-  pub traced : IsTracedInPart begins events after o.out.contents o'.out.contents
+  pub traced : IsTracedInPart initial events after o.out.contents o'.out.contents
   pub silent : o'.err ≡ o.err
 
 -- a run is traced to its end, and shown in part
 pub record IsTracedAndRunInPart (source : List ℕ) (limits : Limits) (text : List ℕ) (explain : Bool) (o o' : OutputState) : Type 0 where
   pub events : List Event
-  pub begins : MachineState
-  pub ready : IsReady source limits text events begins
+  pub initial : MachineState
+  pub ready : IsReady source limits text events initial
   pub after : MachineState
   pub reports : List Report
   pub between : StreamState
-  pub traced : IsTraced begins events after reports o.out.contents between.contents
+  pub traced : IsTraced initial events after reports o.out.contents between.contents
   pub shown : IsRunInPart source limits text None None explain false false (record o { out = between }) o'
 
 -- a run is drawn in part: its first events are done, and nothing or a prefix of the picture is shown
 pub record IsPictureCut (source : List ℕ) (limits : Limits) (text : List ℕ) (part : Part) (o o' : OutputState) : Type 0 where
   pub events : List Event
-  pub begins : MachineState
-  pub ready : IsReady source limits text events begins
+  pub initial : MachineState
+  pub ready : IsReady source limits text events initial
   pub few : event_count part (length events) ≤ MOST_EVENTS
   pub after : MachineState
-  pub pictured : IsPictureInPart begins events after (window_of part (length events)) o.out.contents o'.out.contents
+  pub pictured : IsPictureInPart initial events after (window_of part (length events)) o.out.contents o'.out.contents
   pub silent : o'.err ≡ o.err
 
 -- a run is drawn, and a write of the states of its threads failed
@@ -399,8 +399,8 @@ pub record IsPicturedAndRunInPart (source : List ℕ) (limits : Limits) (text : 
 -- a write failed of the line that reports too many events
 pub record IsTooManyInPart (source : List ℕ) (limits : Limits) (text : List ℕ) (part : Part) (o o' : OutputState) : Type 0 where
   pub events : List Event
-  pub begins : MachineState
-  pub ready : IsReady source limits text events begins
+  pub initial : MachineState
+  pub ready : IsReady source limits text events initial
   pub many : MOST_EVENTS < event_count part (length events)
   pub cut : Fails o.err o'.err (too_many_text (event_count part (length events)))
   pub silent : o'.out ≡ o.out

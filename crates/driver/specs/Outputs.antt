@@ -26,14 +26,14 @@ abbrev pub IsUntouched : OutputState → OutputState → Type 0
 IsUntouched o o' = (o'.out ≡ o.out) × (o'.err ≡ o.err)
 
 -- a write to one of the outputs failed
-abbrev pub HasBroken : OutputState → OutputState → Type 0
-HasBroken o o' = HasGrown o.out.failures o'.out.failures ⊎ HasGrown o.err.failures o'.err.failures
+abbrev pub HasFailedWrite : OutputState → OutputState → Type 0
+HasFailedWrite o o' = HasGrown o.out.failures o'.out.failures ⊎ HasGrown o.err.failures o'.err.failures
 
 -- A command is given up for a failure, for this reason. Nothing is printed of a refusal, and else nothing, or this part of what the command shows. A device
 -- is reported only where a write failed. No files are left.
 pub record IsGivenUp (IsReason : Failure → Type 0) (IsPart : OutputState → OutputState → Type 0) (o o' : OutputState) (failure : Failure) : Type 0 where
   pub reason : IsReason failure
   pub untouched : is_refusal failure ≡ true → IsUntouched o o'
-  pub device : failure ≡ Device → HasBroken o o'
+  pub device : failure ≡ Device → HasFailedWrite o o'
   pub in_part : IsUntouched o o' ⊎ IsPart o o'
   pub same : o'.texts ≡ o.texts

@@ -10,7 +10,7 @@ use Rattle.source_runs.specs.simulation.MachineStates.{MachineState}
 
 -- the most words in use of a new machine of a source that performs these events with their reports
 abbrev pub IsMostOfRun : List ℕ → Limits → List (Event × Report) → ℕ → Type 0
-IsMostOfRun source limits events most = (begins last : MachineState) × IsMade source limits begins × IsMostInUse begins events last most
+IsMostOfRun source limits events most = (initial last : MachineState) × IsMade source limits initial × IsMostInUse initial events last most
 
 -- what is reported of the numbers of a run by these events with these reports, which leaves this machine state and had at most this number of words in use
 abbrev pub stats_text : Bool → List Event → List Report → MachineState → Option ℕ → List ℕ

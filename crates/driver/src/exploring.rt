@@ -12,7 +12,7 @@ ghost use Rattle.driver.specs.Records.{texts_of};
 
 use crate::command_outputs::Outputs;
 use crate::outcome_texts::text_of;
-use crate::recording::{RecordFiles, leave};
+use crate::recording::{RecordFiles, replace_files};
 use crate::showing::are_all_done;
 use cil_model::limits::Limits;
 use cil_model::memory::NoMemory;
@@ -44,7 +44,7 @@ pub(crate) fn show_exploration<W: Out, E: Out>(
     let text = text_of(alloc, source, limits, extent, explain, &exploration)?;
     let saved = saved_files(alloc, is_saved, source, limits, &exploration.found)?;
     outputs.out.write_whole(text.as_bytes())?;
-    leave(saved, &mut outputs.files);
+    replace_files(saved, &mut outputs.files);
     Ok(status_of(exploration.is_complete, &exploration.found))
 }
 

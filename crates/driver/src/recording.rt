@@ -91,8 +91,8 @@ impl Record {
     }
 }
 
-/// Leaves files in place of those that are kept. None leave those as they are.
-pub(crate) fn leave(files: Option<RecordFiles>, kept: &mut Option<RecordFiles>)
+/// Replaces the files that are kept by these. Without new files they stay as they are.
+pub(crate) fn replace_files(files: Option<RecordFiles>, kept: &mut Option<RecordFiles>)
     ensures { texts_of kept.new ≡ texts_over (texts_of files) (texts_of kept.old) }
 {
     if files.is_some() {

@@ -6,7 +6,7 @@ ghost use Rattle.driver.specs.Outputs.{IsGivenUp, output_state};
 
 use crate::command_outputs::Outputs;
 use crate::outcomes::show_outcome;
-use crate::recording::{leave, record_of};
+use crate::recording::{record_of, replace_files};
 use crate::statistics::{most_words_of, show_last_of_workers};
 use cil_model::limits::Limits;
 use cil_model::stops::StopAt;
@@ -59,6 +59,6 @@ pub(crate) fn show_threads<W: Out, E: Out>(
         status,
         &mut outputs.err,
     )?;
-    leave(record.into_files(), &mut outputs.files);
+    replace_files(record.into_files(), &mut outputs.files);
     Ok(status)
 }

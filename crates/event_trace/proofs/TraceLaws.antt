@@ -139,7 +139,7 @@ end_cut c d es pending out so_far new h begun =
       transitions = traced_transitions 1 c d (take (length es) es) h.reports h.text lines;
       text = h.text;
       lines = lines;
-      begun = inr (refl, begins_rest out so_far new h.text pending (10 ∷ []) h.held begun);
+      prefix = inr (refl, begins_rest out so_far new h.text pending (10 ∷ []) h.held begun);
     }
 
 pub same_so_far : (c d : MachineState) (es : List Event) (pending : List ℕ) (out new : Option (List ℕ)) → TracedSoFar c es d pending out new → SameProgram c d
@@ -148,7 +148,7 @@ same_so_far c d es pending out new h = transitions_program c d es h.reports (tra
 -- ---- not all events are done
 
 pub nothing_traced : (c : MachineState) (es : List Event) (out : Option (List ℕ)) → IsTracedInPart c es c out out
-nothing_traced c es out = record { count = 0; within = omega arith; reports = []; transitions = (refl, refl); text = []; lines = (refl, refl, refl); begun = inl (begins_nothing out []) }
+nothing_traced c es out = record { count = 0; within = omega arith; reports = []; transitions = (refl, refl); text = []; lines = (refl, refl, refl); prefix = inl (begins_nothing out []) }
 
 -- no more events are done, and a beginning of what was pending is written
 pub stopped_before : (c d after : MachineState) (all es rest : List Event) (pending : List ℕ) (out so_far new : Option (List ℕ)) → all ≡ es ++ rest → TracedSoFar c es d pending out so_far → after ≡ d →
@@ -163,7 +163,7 @@ stopped_before c d after all es rest pending out so_far new split h same begun =
       transitions = traced_transitions 1 c after (take (length es) all) h.reports h.text lines;
       text = h.text;
       lines = lines;
-      begun = inl (begins_pending out so_far new h.text pending h.held begun);
+      prefix = inl (begins_pending out so_far new h.text pending h.held begun);
     }
 
 -- the next event isn't done, or its line is not wholly written
@@ -184,7 +184,7 @@ stopped_at c d after all es n e rest pending out so_far new split is h (inr done
       transitions = traced_transitions 1 c after (take (length (es ++ e ∷ [])) all) (h.reports ++ r ∷ []) (h.text ++ line) lines;
       text = h.text ++ line;
       lines = lines;
-      begun = inl (begins_rest out so_far new h.text pending line h.held done.2);
+      prefix = inl (begins_rest out so_far new h.text pending line h.held done.2);
     }
 
 -- memory runs out for an event, or for its line, and a beginning of what was pending is written

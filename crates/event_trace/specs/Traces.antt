@@ -37,7 +37,7 @@ pub record IsTracedInPart (old : MachineState) (events : List Event) (new : Mach
   pub transitions : AreTransitions old (take count events) new reports
   pub text : List ℕ
   pub lines : AreTraced 1 old (take count events) new reports text
-  pub begun : AppendsBeginning out out' text ⊎ ((count ≡ length events) × AppendsBeginning out out' (text ++ 10 ∷ []))
+  pub prefix : AppendsBeginning out out' text ⊎ ((count ≡ length events) × AppendsBeginning out out' (text ++ 10 ∷ []))
 
 -- an event isn't done, and a writer has taken a beginning of what was pending; or it is done, and its line follows what was pending
 abbrev pub IsEventCut : ℕ → Event → MachineState → MachineState → List ℕ → Option (List ℕ) → Option (List ℕ) → Type 0

@@ -29,7 +29,7 @@ returns-clause-made c =
       opened = record {
         same_program = c.in_ok-machine.ensures.program.0;
         same_limits = c.in_ok-machine.ensures.program.1;
-        begins = c.in_ok-machine.ensures.begins;
+        initial = c.in_ok-machine.ensures.begins;
         represents = c.in_ok-machine.ensures.initial_state;
       };
     }

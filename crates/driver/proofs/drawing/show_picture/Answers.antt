@@ -25,7 +25,7 @@ returns-then-count-gt-MOST_EVENTS-clause-done g c =
     let count : c.event_count-count.result ≡ event_count c.args.part (length events) = c.event_count-count.ensures.count ∙ ap (event_count c.args.part) number in
     if_ok c.report_too_many.result c.report_too_many.ensures.whole (λ status reported. inr (record {
       events = events;
-      begins = c.in_ok-machine.machine;
+      initial = c.in_ok-machine.machine;
       ready = c.in_ok-machine.ensures.opened;
       many = subst (λ n. MOST_EVENTS < n) count c.if-count-gt-MOST_EVENTS.true;
       untouched = refl;
@@ -49,7 +49,7 @@ returns-then-count-gt-MOST_EVENTS-clause-given_up g c =
       device = λ device. inr (broken device);
       in_part = by_either cut (λ same. (refl, same)) (λ begun. inr (inr record {
         events = events;
-        begins = c.in_ok-machine.machine;
+        initial = c.in_ok-machine.machine;
         ready = ready;
         many = subst (λ n. MOST_EVENTS < n) count c.if-count-gt-MOST_EVENTS.true;
         cut = subst (λ n. Fails o.err err (too_many_text n)) count begun;
@@ -75,7 +75,7 @@ returns-in_err-draw-clause-given_up g c =
     let stopped = subst (λ items. IsPictureInPart machine (events_of items) after c.window_of-window.result o.out.contents between.contents) c.as_slice-2.ensures.value c.in_err-draw.ensures.stopped in
     let cut : IsPictureCut c.args.source.now c.args.limits c.args.text.now c.args.part o (record o { out = between }) = record {
       events = events;
-      begins = machine;
+      initial = machine;
       ready = ready;
       few = few;
       after = after;

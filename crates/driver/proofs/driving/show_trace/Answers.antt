@@ -24,7 +24,7 @@ returns-in_err-write_trace-clause-given_up g c =
     let ready = c.in_ok-machine.ensures.opened in
     let traced = subst (λ items. IsTracedInPart machine (events_of items) after o.out.contents between.contents) c.as_slice.ensures.value c.in_err-write_trace.ensures.stopped in
     let cut : IsTraceInPart c.args.source.now c.args.limits c.args.text.now o (record o { out = between })
-    = record { events = events_of c.in_ok-machine.items.items; begins = machine; ready = ready; after = after; traced = traced; silent = refl } in
+    = record { events = events_of c.in_ok-machine.items.items; initial = machine; ready = ready; after = after; traced = traced; silent = refl } in
     handed_on c.from_residual-in_err-write_trace.result c.from_residual-in_err-write_trace.ensures.1 (λ failure same.
     let writing = subst IsOfWriting (sym same) c.in_err-write_trace.ensures.failed in
     record {

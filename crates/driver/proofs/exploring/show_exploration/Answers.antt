@@ -57,6 +57,6 @@ returns-clause-done g c =
       silent = refl;
       texts = texts_of c.in_ok-saved.saved;
       are_saved = subst (λ found. AreSaved c.args.is_saved c.args.source.now c.args.limits found (texts_of c.in_ok-saved.saved)) c.deref.ensures.value c.in_ok-saved.ensures;
-      left = c.leave.ensures;
+      left = c.replace_files.ensures;
       status_is = c.status_of.ensures ∙ ap (status_of_exploration c.in_ok-exploration.exploration.is_complete) c.deref-2.ensures.value;
     }

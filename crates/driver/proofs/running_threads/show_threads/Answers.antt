@@ -53,7 +53,7 @@ returns-clause-done g c =
     let ran = c.in_ok-outcome.ensures in
     let ended : outcome.is_out_of_memory ≡ false → HasEnded c.args.stop_at outcome.machine outcome.stopped = ran.ended in
     let m = at c.show_outcome.new.outputs in
-    let left = c.leave.ensures ∙ ap (λ (texts : Option (List ℕ × List ℕ)). texts_over texts m.texts) c.into_files.ensures ∙ ap (texts_over _) c.in_ok-status.ensures.same in
+    let left = c.replace_files.ensures ∙ ap (λ (texts : Option (List ℕ × List ℕ)). texts_over texts m.texts) c.into_files.ensures ∙ ap (texts_over _) c.in_ok-status.ensures.same in
     has_run_threads c.args.source.now c.args.limits c.args.workers.count c.args.stop_at c.args.run.now.most_printed c.args.is_recorded c.args.run.now.explain c.args.run.now.stats outcome.is_out_of_memory h outcome.machine c.record_of-record.result ran.ran ran.own ran.printed outcome.stopped ended c.record_of-record.ensures c.most_words_of-most.result c.most_words_of-most.ensures
-    (at c.args.outputs.now) m (record { out = m.out; err = g.E.Out.taken c.show_last_of_workers.new.err; texts = texts_of c.leave.new.kept }) c.in_ok-status.status c.in_ok-status-2.status c.in_ok-status.ensures.whole refl left
+    (at c.args.outputs.now) m (record { out = m.out; err = g.E.Out.taken c.show_last_of_workers.new.err; texts = texts_of c.replace_files.new.kept }) c.in_ok-status.status c.in_ok-status-2.status c.in_ok-status.ensures.whole refl left
     c.in_ok-status-2.ensures.whole

@@ -16,7 +16,7 @@ returns-in_err-run-clause-refused g c =
 pub returns-clause-printed : goal.returns-clause-printed
 returns-clause-printed g c =
     let made = c.in_ok-machine.ensures.made in
-    c.in_ok-run.ensures.printed made.tree c.args.limits made.opened.begins
+    c.in_ok-run.ensures.printed made.tree c.args.limits made.opened.initial
 
 pub returns-clause-ran : goal.returns-clause-ran
 returns-clause-ran g c =

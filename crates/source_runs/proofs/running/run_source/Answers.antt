@@ -19,7 +19,7 @@ returns-in_err-run-clause-refused g c =
 pub returns-clause-printed : goal.returns-clause-printed
 returns-clause-printed g c =
     let ready = c.in_ok-machine.ensures.opened in
-    c.in_ok-run.ensures.printed ready.tree c.args.limits ready.opened.begins
+    c.in_ok-run.ensures.printed ready.tree c.args.limits ready.opened.initial
 
 pub returns-clause-ran : goal.returns-clause-ran
 returns-clause-ran g c =
