@@ -1,5 +1,5 @@
 -- What lies under the lock, and what an event does to it.
-use Rattle.std.specs.Prelude.{◌≡◌, ◌⊎◌, ℕ, zero, suc, Bool, true, false, List, [], ◌∷◌, ◌++◌, Option, None, Some, length, map, is_none, replicate, slice_get, slice_set, ◌<◌, ◌≤◌, Any, IfSome}
+use Rattle.std.specs.Prelude.{◌≡◌, ◌⊎◌, ℕ, zero, suc, Bool, true, false, List, [], ◌∷◌, ◌++◌, Option, Some, length, map, is_none, replicate, slice_get, slice_set, ◌<◌, ◌≤◌, Any, IfSome}
 use Rattle.std.specs.List.{zip}
 use Rattle.std.specs.Option.{option_map_or}
 use Rattle.cil_model.specs.declared.events.Event.{Event}

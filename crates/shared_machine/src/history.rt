@@ -77,7 +77,6 @@ impl History {
     }
 
     /// Adds an entry at the end, for which there has to be room. The entries before it stay.
-    #[inline(always)]
     pub fn add(&mut self, entry: Entry)
         requires { 0 < self.old.room }
         ensures { self.new.entries ≡ self.old.entries ++ entry ∷ [] }

@@ -6,7 +6,8 @@ use cil_model::reports::Report;
 /// In how many passes of a row in which the collector waits for another worker each is followed by double the yields of the one before.
 const PATIENT_PASSES: u32 = 8;
 
-/// In how many passes of such a row in which its threads made progress by local instructions, which take no memory, it yields once.
+/// In how many passes of such a row in which its threads made progress by local instructions, which take no memory, it yields once, unless it made
+/// passes in a row under the lock, after each of which it yields.
 const LOCAL_PASSES: u32 = 64;
 
 /// How often a worker that drives no live thread yields after the first pass of a row of them; after each of the next ones twice as often.
@@ -67,7 +68,7 @@ impl Progress {
 
 /// The result of a worker's pass.
 #[derive(Clone, Copy)]
-pub(crate) struct Passed {
+pub(crate) struct PassOutcome {
     /// The result of all its events.
     pub progress: Progress,
     /// The result of the steps of its threads.
@@ -76,18 +77,21 @@ pub(crate) struct Passed {
     pub is_driving: bool,
     /// Whether the collector waits for a worker that has not acknowledged the posted number.
     pub is_late: bool,
+    /// Whether it made passes in a row, for which other workers had to wait.
+    pub is_row: bool,
     /// Whether it found no live thread, or the stop mark.
     pub is_last: bool,
 }
 
-impl Passed {
+impl PassOutcome {
     /// A last pass in which nothing was done.
-    pub fn nothing() -> Passed {
-        Passed {
+    pub fn nothing() -> PassOutcome {
+        PassOutcome {
             progress: Progress::None,
             steps: Progress::None,
             is_driving: false,
             is_late: false,
+            is_row: false,
             is_last: true,
         }
     }
@@ -125,7 +129,7 @@ impl Pace {
     }
 
     /// One more pass.
-    pub fn note_pass(&mut self, passed: &Passed) {
+    pub fn note_pass(&mut self, passed: &PassOutcome) {
         self.passes = self.passes.saturating_add(1);
         self.late = if passed.is_late {
             self.late.saturating_add(1)
@@ -141,9 +145,9 @@ impl Pace {
 
     /// How often one of several workers yields after such a pass. While the collector waits for another worker, it is twice as often after
     /// each pass, for some passes, so that the worker's threads hardly make progress meanwhile.
-    pub fn yields(self, passed: &Passed) -> u32 {
+    pub fn yields(self, passed: &PassOutcome) -> u32 {
         if self.late > 0 && passed.steps.is_local() {
-            if self.late % LOCAL_PASSES == 0 { 1 } else { 0 }
+            u32::from(passed.is_row || self.late % LOCAL_PASSES == 0)
         } else if self.late > PATIENT_PASSES {
             1
         } else if self.late > 0 {
@@ -159,7 +163,7 @@ impl Pace {
 
     /// Whether a worker keeps the lock for its next pass: a worker alone unless its threads are held up, one of several after a pass in which
     /// the lock was given back, if it does not yield.
-    pub fn keeps_lock(self, passed: &Passed, workers: u8) -> bool {
+    pub fn keeps_lock(self, passed: &PassOutcome, workers: u8) -> bool {
         if workers == 1 {
             passed.steps != Progress::None
         } else {

@@ -1,16 +1,16 @@
 //! A worker's pass.
 
-ghost use Rattle.std.specs.Prelude.{◌≡◌, ◌≢◌, ◌<◌, ◌≤◌, ℕ, false};
+ghost use Rattle.std.specs.Prelude.{◌≡◌, ◌≢◌, ◌<◌, ◌≤◌, ℕ, false, IfSome};
 ghost use Rattle.cil_model.specs.declared.limits.TheConstants.{MOST_THREADS};
 ghost use Rattle.shared_machine.specs.declared.workers.passes.TheConstants.{MOST_LOCAL};
 ghost use Rattle.cil_model.specs.declared.events.Event.TheVariants.{Step as StepOf};
-ghost use Rattle.shared_machine.specs.Work.{HasWorked, IsHeraldOf, IsOwn, IsSeatHere, IsSeatOf};
+ghost use Rattle.shared_machine.specs.Work.{HasWorked, IsHeraldOf, IsOwn, IsSeatHere, IsSeatOf, IsTheirs};
 
 use crate::answer::Answer;
 use crate::counts::book::Ticket;
 use crate::counts::view::TableName;
 use crate::shared::Shared;
-use crate::workers::pace::{Pace, Passed, Progress};
+use crate::workers::pace::{Pace, PassOutcome, Progress};
 use crate::workers::pass_snapshot::{PassSnapshot, found_in, is_served, served_threads};
 use crate::workers::plan::Plan;
 use crate::workers::seats::{Parked, seat_of};
@@ -32,8 +32,11 @@ const FEW_LOCAL: u32 = 16;
 /// How many passes a worker alone makes in a row with one look at the threads.
 const PASSES_IN_A_ROW: u32 = 64;
 
-/// How many passes a worker makes on one loan, where they need nothing but the lent frame.
-const PASSES_ON_A_LOAN: u32 = 64;
+/// How many worker 0 makes so where other workers wait for the lock meanwhile.
+const PASSES_BESIDE_OTHERS: u32 = 16;
+
+/// How many passes a worker makes on one loan, where they need nothing but the lent frame. The collector waits for their end, which takes less than 0.1 ms.
+const PASSES_ON_A_LOAN: u32 = 256;
 
 /// A worker at its work.
 #[derive(Drop)]
@@ -417,24 +420,45 @@ struct PassResults {
     steps: Progress,
     /// The answer to the event of the collector, where it asked for one.
     collector: Option<Answer>,
+    /// Whether the collector waits for a worker that has not acknowledged the posted number.
+    is_late: bool,
+    /// Whether it made passes in a row.
+    is_row: bool,
 }
 
 impl PassResults {
     /// Before anything is asked for.
     fn none() -> PassResults {
+        PassResults::new(Progress::None, None)
+    }
+
+    /// Of one pass, before anything is posted.
+    fn new(steps: Progress, collector: Option<Answer>) -> PassResults {
         PassResults {
-            steps: Progress::None,
-            collector: None,
+            steps,
+            collector,
+            is_late: false,
+            is_row: false,
         }
     }
 
-    /// Whether the threads and the collector made progress.
-    fn is_progress(&self) -> bool {
-        self.steps != Progress::None
-            && matches!(
-                self.collector,
-                Some(Answer::Did(Report::Worked | Report::CycleDone))
-            )
+    /// Whether a row of passes of a worker alone continues after such a pass: the thread and the collector made progress.
+    fn continues_row(&self) -> bool {
+        self.steps != Progress::None && self.is_collecting()
+    }
+
+    /// Whether one beside other workers continues: the thread made local instructions alone, so that none was started or ended, and the collector made
+    /// progress, or waits for another worker.
+    fn continues_row_beside_others(&self) -> bool {
+        self.steps == Progress::MadeLocally && (self.is_late || self.is_collecting())
+    }
+
+    /// Whether the collector made progress.
+    fn is_collecting(&self) -> bool {
+        matches!(
+            self.collector,
+            Some(Answer::Did(Report::Worked | Report::CycleDone))
+        )
     }
 
     /// The result of the event of the collector.
@@ -462,23 +486,64 @@ fn collect<M: Initial>(
     }
 }
 
-/// Advances the only thread under the lock that is held, and does an event of the collector, as worker 0.
+/// Has a parked seat acknowledge for each worker that drives no live thread, posts the next number, and returns whether a seat was late.
+fn acknowledge_and_post<M: Initial, E: TableName, R: Wait>(
+    rt: &R,
+    epochs: &Epochs,
+    parked: &Mutex<Parked<E>>,
+    world: &World<M>,
+    herald: &mut Option<Herald>,
+    workers: u8,
+) -> bool
+    requires here { IsHeraldOf epochs.now herald.old }
+    requires same { epochs.now.table ≡ E.table }
+    ensures { IsHeraldOf epochs.now herald.new }
+{
+    let idle = idle_workers(world.machine(), workers);
+    if idle > 0 {
+        parked.lock(rt).acknowledge(epochs, idle);
+    }
+    post(epochs, herald)
+}
+
+/// Does so where the collector waits. Else no seat is late.
+#[inline(always)]
+fn post_if_waiting<M: Initial, E: TableName, R: Wait>(
+    rt: &R,
+    epochs: &Epochs,
+    parked: &Mutex<Parked<E>>,
+    world: &World<M>,
+    herald: &mut Option<Herald>,
+    workers: u8,
+    results: &PassResults,
+) -> bool
+    requires here { IsHeraldOf epochs.now herald.old }
+    requires same { epochs.now.table ≡ E.table }
+    ensures { IsHeraldOf epochs.now herald.new }
+{
+    matches!(results.collector, Some(Answer::Did(Report::Waiting)))
+        && acknowledge_and_post(rt, epochs, parked, world, herald, workers)
+}
+
+/// Advances a thread under the lock that is held, and, as worker 0, does an event of the collector. Where the thread is the worker's own, the worker has done
+/// nothing else.
 #[inline(always)]
 fn advance_and_collect<M: Initial>(
     alloc: Global,
     world: &mut World<M>,
     ticket: &mut Ticket<M>,
+    thread: u8,
     not_local: &mut Option<u8>,
 ) -> PassResults
-    ensures { ticket.old.worker ≡ 0 → HasWorked 1 ticket.old ticket.new }
+    ensures { (workers : ℕ) → IsOwn workers ticket.old.worker (StepOf thread) → HasWorked workers ticket.old ticket.new }
 {
-    let (steps, _) = advance_in_place(alloc, world, ticket, 0, MOST_LOCAL, not_local);
+    let (steps, _) = advance_in_place(alloc, world, ticket, thread, MOST_LOCAL, not_local);
     let collector = if steps.lasts() {
         collect(alloc, world, ticket)
     } else {
         None
     };
-    PassResults { steps, collector }
+    PassResults::new(steps, collector)
 }
 
 /// Asks for what the passes of a worker alone ask for while there is one thread: it advances, and an event of the collector follows, again and again while
@@ -493,11 +558,64 @@ fn make_row<M: Initial>(
 {
     let mut results = PassResults::none();
     for _pass in 0..PASSES_IN_A_ROW {
-        results = advance_and_collect(alloc, world, ticket, not_local);
-        if !results.is_progress() || world.machine().started() != 1 || !world.machine().is_live(0) {
+        results = advance_and_collect(alloc, world, ticket, 0, not_local);
+        if !results.continues_row()
+            || world.machine().started() != 1
+            || !world.machine().is_live(0)
+        {
             break;
         }
     }
+    results
+}
+
+/// The only live thread that worker 0 drives beside other workers, where no gate can hold it. None for another worker, and for a worker alone.
+fn only_thread(machine: &Machine, plan: Plan, worker: u8, found: PassSnapshot) -> Option<u8>
+    requires some { 0 < plan.workers }
+    requires few { found.started ≤ MOST_THREADS }
+    ensures { IfSome result (λ thread. IsTheirs plan.workers worker thread) }
+{
+    if worker != 0 || plan.workers == 1 || !plan.is_open || found.served != 1 {
+        return None;
+    }
+    for thread in 0..found.started {
+        if is_served(machine, plan.workers, worker, thread as u8) {
+            return Some(thread as u8);
+        }
+    }
+    None
+}
+
+/// Asks for what the passes of worker 0 ask for while it drives this thread alone and other workers wait for the lock: the thread makes local instructions,
+/// and an event of the collector follows, again and again while both make progress or the collector waits for another worker. It returns what the
+/// last pass asked for.
+fn make_row_beside_others<M: Initial, E: TableName, R: Wait>(
+    rt: &R,
+    alloc: Global,
+    epochs: &Epochs,
+    parked: &Mutex<Parked<E>>,
+    world: &mut World<M>,
+    ticket: &mut Ticket<M>,
+    not_local: &mut Option<u8>,
+    herald: &mut Option<Herald>,
+    workers: u8,
+    thread: u8,
+) -> PassResults
+    requires own { IsTheirs workers ticket.old.worker thread }
+    requires here { IsHeraldOf epochs.now herald.old }
+    requires same { epochs.now.table ≡ E.table }
+    ensures here { IsHeraldOf epochs.now herald.new }
+    ensures worked { HasWorked workers ticket.old ticket.new }
+{
+    let mut results = PassResults::none();
+    for _pass in 0..PASSES_BESIDE_OTHERS {
+        results = advance_and_collect(alloc, world, ticket, thread, not_local);
+        results.is_late = post_if_waiting(rt, epochs, parked, world, herald, workers, &results);
+        if !results.continues_row_beside_others() {
+            break;
+        }
+    }
+    results.is_row = true;
     results
 }
 
@@ -526,32 +644,51 @@ fn step_and_collect<'s, M: Initial, R: Wait>(
     } else {
         None
     };
-    (PassResults { steps, collector }, world)
+    (PassResults::new(steps, collector), world)
 }
 
-/// Where the collector waits, has a parked seat acknowledge for each worker that drives no live thread, posts the next number, and returns whether a
-/// seat was late.
-fn post_if_waiting<M: Initial, E: TableName, R: Wait>(
+/// What a worker asks for in a pass after its acknowledgements: each of its threads makes a step, and, as worker 0, it does an event of the collector and posts
+/// where that waits. Beside other workers worker 0 makes passes in a row where it drives one thread.
+fn ask_for_events<'s, M: Initial, E: TableName, R: Wait>(
     rt: &R,
+    alloc: Global,
+    shared: &'s Shared<M>,
     epochs: &Epochs,
     parked: &Mutex<Parked<E>>,
-    world: &World<M>,
+    mut world: MutexGuard<'s, World<M>>,
+    ticket: &mut Ticket<M>,
+    not_local: &mut Option<u8>,
     herald: &mut Option<Herald>,
-    workers: u8,
-    results: &PassResults,
-) -> bool
+    plan: Plan,
+    found: PassSnapshot,
+) -> (PassResults, MutexGuard<'s, World<M>>)
+    requires some { 0 < plan.workers }
+    requires few { found.started ≤ MOST_THREADS }
     requires here { IsHeraldOf epochs.now herald.old }
     requires same { epochs.now.table ≡ E.table }
-    ensures { IsHeraldOf epochs.now herald.new }
+    ensures here { IsHeraldOf epochs.now herald.new }
+    ensures worked { HasWorked plan.workers ticket.old ticket.new }
 {
-    if !matches!(results.collector, Some(Answer::Did(Report::Waiting))) {
-        return false;
+    if let Some(thread) = only_thread(world.machine(), plan, ticket.worker(), found) {
+        let results = make_row_beside_others(
+            rt,
+            alloc,
+            epochs,
+            parked,
+            &mut *world,
+            ticket,
+            not_local,
+            herald,
+            plan.workers,
+            thread,
+        );
+        return (results, world);
     }
-    let idle = idle_workers(world.machine(), workers);
-    if idle > 0 {
-        parked.lock(rt).acknowledge(epochs, idle);
-    }
-    post(epochs, herald)
+    let (mut results, world) = step_and_collect(
+        rt, alloc, shared, world, ticket, not_local, plan, found,
+    );
+    results.is_late = post_if_waiting(rt, epochs, parked, &*world, herald, plan.workers, &results);
+    (results, world)
 }
 
 /// What a worker does in a pass, under the lock that is held: it polls and acknowledges, lets each of its threads make a step, and, as worker 0,
@@ -566,7 +703,7 @@ fn serve<'s, M: Initial, E: TableName, R: Wait>(
     worker: &mut Worker<M>,
     plan: Plan,
     found: PassSnapshot,
-) -> (Passed, MutexGuard<'s, World<M>>)
+) -> (PassOutcome, MutexGuard<'s, World<M>>)
     requires some { 0 < plan.workers }
     requires few { found.started ≤ MOST_THREADS }
     requires here { IsSeatHere epochs.now worker.old.seat × IsHeraldOf epochs.now worker.old.herald }
@@ -594,25 +731,24 @@ fn serve<'s, M: Initial, E: TableName, R: Wait>(
         pace,
     } = worker;
     let mut results = PassResults::none();
-    let mut is_late = false;
     if progress.lasts() {
-        (results, world) = step_and_collect(
-            rt, alloc, shared, world, ticket, not_local, plan, found,
+        (results, world) = ask_for_events(
+            rt, alloc, shared, epochs, parked, world, ticket, not_local, herald, plan, found,
         );
-        is_late = post_if_waiting(rt, epochs, parked, &*world, herald, plan.workers, &results);
         let came = results.collector_progress();
         // Worker 0 alone posts, where the collector waits and no seat is late.
-        *polls = ticket.worker() != 0 || (came == Progress::None && !is_late);
+        *polls = ticket.worker() != 0 || (came == Progress::None && !results.is_late);
         progress = progress.then(results.steps).then(came);
     }
     if !progress.lasts() {
         stop(&mut *world);
     }
-    let passed = Passed {
+    let passed = PassOutcome {
         progress,
         steps: results.steps,
         is_driving: found.served > 0,
-        is_late,
+        is_late: results.is_late,
+        is_row: results.is_row,
         is_last: found.is_last,
     };
     pace.note_pass(&passed);
@@ -633,7 +769,7 @@ pub(crate) fn pass<'s, M: Initial, E: TableName, R: Wait>(
     world: MutexGuard<'s, World<M>>,
     worker: &mut Worker<M>,
     plan: Plan,
-) -> (Passed, MutexGuard<'s, World<M>>)
+) -> (PassOutcome, MutexGuard<'s, World<M>>)
     requires some { 0 < plan.workers }
     requires here { IsSeatHere epochs.now worker.old.seat × IsHeraldOf epochs.now worker.old.herald }
     requires same { epochs.now.table ≡ E.table }
@@ -642,7 +778,7 @@ pub(crate) fn pass<'s, M: Initial, E: TableName, R: Wait>(
 {
     let found = found_in(&*world, plan.workers, worker.ticket.worker());
     if found.is_stopped && matches!(plan.stop_at, StopAt::Deadlock) {
-        return (Passed::nothing(), world);
+        return (PassOutcome::nothing(), world);
     }
     serve(
         rt, alloc, shared, epochs, parked, world, worker, plan, found,

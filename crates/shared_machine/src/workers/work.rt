@@ -8,7 +8,7 @@ use crate::counts::view::TableName;
 use crate::shared::Shared;
 use crate::workers::deadlock::is_deadlocked;
 use crate::workers::gate::Gate;
-use crate::workers::pace::{Pace, Passed};
+use crate::workers::pace::{Pace, PassOutcome};
 use crate::workers::passes::{Worker, pass};
 use crate::workers::plan::Plan;
 use crate::workers::seats::Parked;
@@ -51,7 +51,7 @@ fn rest<M: Initial, R: Wait>(
     worker: u8,
     plan: Plan,
     pace: Pace,
-    passed: &Passed,
+    passed: &PassOutcome,
 ) {
     if worker == 0 && matches!(plan.stop_at, StopAt::Deadlock) && pace.looks() {
         stop_at_deadlock(rt, shared);
@@ -70,14 +70,14 @@ fn pass_in_a_hold<M: Initial, E: TableName, R: Wait>(
     parked: &Mutex<Parked<E>>,
     plan: Plan,
     worker: &mut Worker<M>,
-) -> Passed
+) -> PassOutcome
     requires some { 0 < plan.workers }
     requires here { IsSeatHere epochs.now worker.old.seat × IsHeraldOf epochs.now worker.old.herald }
     requires same { epochs.now.table ≡ E.table }
     ensures here { IsSeatHere epochs.now worker.new.seat × IsHeraldOf epochs.now worker.new.herald }
     ensures worked { HasWorked plan.workers worker.old.ticket worker.new.ticket }
 {
-    let mut passed = Passed::nothing();
+    let mut passed = PassOutcome::nothing();
     let mut world = shared.lock_soon(rt);
     for _pass in 0..PASSES_IN_A_HOLD {
         (passed, world) = pass(rt, alloc, shared, epochs, parked, world, worker, plan);

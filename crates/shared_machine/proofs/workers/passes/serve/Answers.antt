@@ -6,6 +6,6 @@ pub returns-clause-worked : goal.returns-clause-worked
 returns-clause-worked g c =
     let first = c.acknowledge_news-progress.ensures.worked in
     elim c.if-lasts.branch [
-      | then-lasts w ↦ rw w.worker-is (worked_both _ _ _ _ first w.step_and_collect.ensures)
+      | then-lasts w ↦ rw w.worker-is (worked_both _ _ _ _ first w.ask_for_events.ensures.worked)
       | else-lasts w ↦ rw w.worker-is first
     ]
