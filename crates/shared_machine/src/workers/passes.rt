@@ -1,7 +1,8 @@
 //! A worker's pass.
 
-ghost use Rattle.std.specs.Prelude.{◌≡◌, ◌≢◌, ◌<◌, ◌≤◌, ℕ, false, IfSome};
+ghost use Rattle.std.specs.Prelude.{◌≡◌, ◌≢◌, ◌<◌, ◌≤◌, ℕ, false, true, IfSome};
 ghost use Rattle.cil_model.specs.declared.limits.TheConstants.{MOST_THREADS};
+ghost use Rattle.interleaving_core.specs.simulation.threads_monitors.Threads.{is_live_at};
 ghost use Rattle.shared_machine.specs.declared.workers.passes.TheConstants.{MOST_LOCAL};
 ghost use Rattle.cil_model.specs.declared.events.Event.TheVariants.{Step as StepOf};
 ghost use Rattle.shared_machine.specs.Work.{HasWorked, IsHeraldOf, IsOwn, IsSeatHere, IsSeatOf, IsTheirs};
@@ -35,7 +36,7 @@ const PASSES_IN_A_ROW: u32 = 64;
 /// How many worker 0 makes so where other workers wait for the lock meanwhile.
 const PASSES_BESIDE_OTHERS: u32 = 16;
 
-/// How many passes a worker makes on one loan, where they need nothing but the lent frame. The collector waits for their end, which takes less than 0.1 ms.
+/// How many passes a worker makes on one loan, where they need nothing but the lent frame. The collector waits for their end, some 0.1 ms.
 const PASSES_ON_A_LOAN: u32 = 256;
 
 /// A worker at its work.
@@ -573,7 +574,7 @@ fn make_row<M: Initial>(
 fn only_thread(machine: &Machine, plan: Plan, worker: u8, found: PassSnapshot) -> Option<u8>
     requires some { 0 < plan.workers }
     requires few { found.started ≤ MOST_THREADS }
-    ensures { IfSome result (λ thread. IsTheirs plan.workers worker thread) }
+    ensures { IfSome result (λ thread. IsTheirs plan.workers worker thread × (is_live_at machine.now.threads thread ≡ true)) }
 {
     if worker != 0 || plan.workers == 1 || !plan.is_open || found.served != 1 {
         return None;
