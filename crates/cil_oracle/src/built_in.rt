@@ -10,7 +10,7 @@ use cil_model::limits::MOST_THREADS;
 use cil_model::reports::Fault;
 
 /// What a member without code does.
-#[derive(Clone, Copy, Debug, PartialEq, Eq)]
+#[derive(Clone, Copy)]
 pub enum Action {
     Construct,
     Write,

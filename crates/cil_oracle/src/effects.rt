@@ -5,7 +5,7 @@ use cil_model::reports::Fault;
 use std::alloc::{AllocError, AllocFailed};
 
 /// Where the thread continues.
-#[derive(Clone, Copy, Debug)]
+#[derive(Clone, Copy)]
 pub enum Effect {
     /// At the next instruction.
     Next,
@@ -18,7 +18,7 @@ pub enum Effect {
 }
 
 /// Why it does not.
-#[derive(Clone, Copy, Debug, PartialEq, Eq)]
+#[derive(Clone, Copy)]
 pub enum Halt {
     /// The thread waits. Nothing was changed.
     Blocks,

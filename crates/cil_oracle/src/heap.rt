@@ -10,7 +10,7 @@ use name_tables::ids::{ClassId, FieldId};
 use std::alloc::Global;
 
 /// The lock of an object: the thread that holds it, and how often (ECMA-335 I.12.6.5).
-#[derive(Clone, Copy, Debug, PartialEq, Eq)]
+#[derive(Clone, Copy)]
 pub enum Monitor {
     Free,
     Held { owner: usize, count: usize },

@@ -22,7 +22,7 @@ pub struct OracleThread<'a> {
 }
 
 /// A step that is being made: of which thread, how many frames it has, and whether a birth is refused.
-#[derive(Clone, Copy, Debug)]
+#[derive(Clone, Copy)]
 pub struct OracleStep {
     pub thread: usize,
     pub depth: usize,

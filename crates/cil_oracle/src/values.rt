@@ -59,7 +59,7 @@ impl Value {
 }
 
 /// A type without brackets, its class by number.
-#[derive(Clone, Copy, Debug, PartialEq, Eq)]
+#[derive(Clone, Copy, PartialEq, Eq)]
 pub enum OracleElement {
     Int32,
     Int64,
@@ -69,7 +69,7 @@ pub enum OracleElement {
 }
 
 /// A type: the element, and how many pairs of brackets follow it.
-#[derive(Clone, Copy, Debug, PartialEq, Eq)]
+#[derive(Clone, Copy, PartialEq, Eq)]
 pub struct OracleType {
     pub element: OracleElement,
     pub brackets: u32,

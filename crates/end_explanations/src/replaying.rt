@@ -18,7 +18,7 @@ use std::alloc::{AllocError, Global};
 use thiserror::Error;
 
 /// Why the ends of threads are not explained.
-#[derive(Clone, Copy, Debug, PartialEq, Eq, Error)]
+#[derive(Clone, Copy, Debug, Error)]
 pub enum ReplayError {
     /// Memory ran out, for an event or for the text.
     #[error("out of memory")]

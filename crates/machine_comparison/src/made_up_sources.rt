@@ -19,7 +19,7 @@ static EXTREMES: [i64; 4] = [-2_147_483_648, 2_147_483_647, -1, 65_536];
 static LONG_EXTREMES: [i64; 4] = [i64::MIN, i64::MAX, -1, 4_294_967_296];
 
 /// How often a rule is chosen.
-#[derive(Clone, Copy, Debug, PartialEq, Eq)]
+#[derive(Clone, Copy)]
 enum Chance {
     Fixed,
     Simple,
@@ -28,7 +28,7 @@ enum Chance {
 }
 
 /// A rule of the grammar.
-#[derive(Clone, Copy, Debug)]
+#[derive(Clone, Copy)]
 struct Rule<'g> {
     name: &'g str,
     chance: Chance,
@@ -89,7 +89,7 @@ impl<'g> Grammar<'g> {
 }
 
 /// Words of a rule that are still to be written, the depth of what the rule produces, and its first label.
-#[derive(Clone, Copy, Debug)]
+#[derive(Clone, Copy)]
 struct Pending<'g> {
     words: &'g str,
     rule: &'g str,

@@ -23,7 +23,7 @@ const LENGTH: usize = 6;
 const SCHEDULES: usize = 15_625;
 
 /// The outcomes of the schedules.
-#[derive(Clone, Copy, Debug)]
+#[derive(Clone, Copy)]
 struct Count {
     printing: usize,
     differing: usize,

@@ -7,7 +7,7 @@ use cil_model::memory::NoMemory;
 use outputs::Device;
 
 /// Why a picture was not written to its end.
-#[derive(Clone, Copy, Debug, PartialEq, Eq)]
+#[derive(Clone, Copy, Debug)]
 pub enum PictureError {
     /// Memory ran out, for an event or for the picture.
     Memory,

@@ -8,3 +8,6 @@ loop-path_index-preserved g c = λ n below events at. dite (ℕ_discrete n c.loo
     let here = subst (λ k. slice_get (map events_of c.args.paths.now) k ≡ Some events) same at in
     (c.in_ok-is_checked.ensures.closed c.if-not-is_checked.false events here, c.in_ok-is_checked.ensures.shown c.if-not-is_checked.false events here))
     (λ other. c.loop-path_index.invariant n (omega arith) events at)
+
+pub returns : goal.returns
+returns g c = λ yes n below events at. let past = c.loop-path_index-test.false in c.loop-path_index.invariant n (omega (arith, below, past)) events at
