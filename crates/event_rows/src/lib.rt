@@ -7,8 +7,7 @@ ghost use Rattle.event_rows.specs.Rows.{rows_of, drawn_by, path_text};
 ghost use Rattle.event_rows.specs.declared.Span.{Span as AnySpan};
 
 use std::alloc::{AllocError, Global};
-use std::fmt;
-use std::fmt::{Display, Write};
+use std::fmt::Write;
 use std::marker::Model;
 
 /// Events whose numbers follow one another.
@@ -44,26 +43,6 @@ impl Span {
         } else {
             None
         }
-    }
-}
-
-/// A span as a piece of a path, at this height.
-#[derive(Clone, Copy)]
-struct Piece {
-    y: usize,
-    span: Span,
-}
-
-impl fmt::Display for Piece {
-    ghost use Rattle.std.specs.Prelude.{Some};
-    ghost use Rattle.event_rows.specs.Rows.{span_text};
-
-    ghost output = { λ piece. Some (span_text piece.y piece.span) };
-
-    fn fmt<W: fmt::Write>(&self, f: &mut fmt::Formatter<W>) -> fmt::Result {
-        let y = self.y;
-        let Span { first, count } = self.span;
-        write!(f, "M{first} {y}h{count}")
     }
 }
 
@@ -131,8 +110,8 @@ fn add_spans(spans: &[Span], y: usize, text: &mut String) -> Result<(), AllocErr
     ensures { OnOk result (string_bytes text.new ≡ string_bytes text.old ++ path_text y spans.now) }
 {
     for span in spans {
-        let piece = Piece { y, span: *span };
-        write!(text, "{piece}")?;
+        let Span { first, count } = *span;
+        write!(text, "M{first} {y}h{count}")?;
     }
     Ok(())
 }

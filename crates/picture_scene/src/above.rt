@@ -1,11 +1,10 @@
 //! What stands beside and over the steps: names, ends, acknowledgements and lines of output.
 
 use crate::layout::{LEFT, Layout, RIGHT};
-use crate::marks::{Kind, part_of};
+use crate::marks::{Kind, Mark, part_of};
 use crate::scene::{Lane, Scene};
-use crate::style::color_of;
 use cil_model::reports::End;
-use svg_text::{Content, INHERIT};
+use svg_text::{Class, Color, Content};
 
 /// The most acknowledgements that are drawn one by one.
 const MOST_DIAMONDS: usize = 80;
@@ -30,27 +29,25 @@ pub(crate) fn add_above(page: &mut Content, layout: &Layout, scene: &Scene, cons
 
 /// The name of a lane, whose middle is at this height: the thread, and its first method.
 fn add_name(page: &mut Content, layout: &Layout, thread: usize, method: &[u8], y: usize) {
-    let below = if layout.is_compact { 4 } else { 0 };
-    page.put_number("thread ", thread);
-    page.text(
-        "name left",
-        color_of(thread),
-        LEFT - 10,
-        y.saturating_add(below),
-    );
-    if !layout.is_compact {
-        let words: &[u8] = if method.is_empty() {
-            b"never stepped"
-        } else {
-            last_bytes(method, 22)
-        };
-        page.label(
-            "quiet left",
-            INHERIT,
-            LEFT - 10,
-            y.saturating_add(13),
-            words,
-        );
+    let color = Color::Thread(thread);
+    page.put("thread ");
+    page.put_number(thread);
+    if layout.is_compact {
+        page.text(Class::NameLeft, color, LEFT - 10, y.saturating_add(4));
+    } else {
+        page.text(Class::NameLeft, color, LEFT - 10, y);
+        let x = LEFT - 10;
+        let below = y.saturating_add(13);
+        page.label(Class::QuietLeft, Color::Inherit, x, below, shown(method));
+    }
+}
+
+/// The last bytes of the name of a thread's first method, or that it has none.
+fn shown(method: &[u8]) -> &[u8] {
+    if method.is_empty() {
+        b"never stepped"
+    } else {
+        last_bytes(method, 22)
     }
 }
 
@@ -62,24 +59,31 @@ pub(crate) fn last_bytes(text: &[u8], most: usize) -> &[u8] {
 /// How a thread is at the end: a ring where it is done, a cross where it ended otherwise, and in words.
 fn add_end(page: &mut Content, layout: &Layout, thread: usize, lane: &Lane, y: usize) {
     let x = layout.x(lane.to);
-    let below = y.saturating_add(4);
+    let (class, words) = end_words(lane);
     match lane.end {
-        None if lane.is_waiting => page.label("bad", INHERIT, RIGHT + 10, below, b"live, waits"),
-        None => page.label("plain", INHERIT, RIGHT + 10, below, b"live"),
-        Some(End::Done) => {
-            page.circle("ring", color_of(thread), x, y, 5);
-            page.label("plain", INHERIT, RIGHT + 10, below, b"done");
+        None => {}
+        Some(End::Done) => page.circle(Class::Ring, Color::Thread(thread), x, y, 5),
+        Some(_) => {
+            let y = y.saturating_sub(4);
+            page.shape(Class::Cross, Color::Inherit, x - 4, y, "l8 8m0 -8l-8 8");
         }
-        Some(end) => {
-            page.shape(
-                "cross",
-                INHERIT,
-                x - 4,
-                y.saturating_sub(4),
-                "l8 8m0 -8l-8 8",
-            );
-            page.label("bad", INHERIT, RIGHT + 10, below, short_end(end));
-        }
+    }
+    page.label(
+        class,
+        Color::Inherit,
+        RIGHT + 10,
+        y.saturating_add(4),
+        words,
+    );
+}
+
+/// How a thread is at the end, in words, and their class.
+fn end_words(lane: &Lane) -> (Class, &'static [u8]) {
+    match lane.end {
+        None if lane.is_waiting => (Class::Bad, b"live, waits"),
+        None => (Class::Plain, b"live"),
+        Some(End::Done) => (Class::Plain, b"done"),
+        Some(end) => (Class::Bad, short_end(end)),
     }
 }
 
@@ -101,10 +105,10 @@ fn short_end(end: End) -> &'static [u8] {
 /// Each acknowledgement as a diamond.
 fn add_diamonds(page: &mut Content, layout: &Layout, scene: &Scene) {
     for mark in scene.marks.as_slice() {
-        if mark.kind == Kind::Ack {
+        if matches!(mark.kind, Kind::Ack) {
             let x = layout.middle_x(mark.from);
             let y = layout.middle_y(mark.lane) - 4;
-            page.shape("diamond", INHERIT, x, y, "l4 4l-4 4l-4 -4z");
+            page.shape(Class::Diamond, Color::Inherit, x, y, "l4 4l-4 4l-4 -4z");
         }
     }
 }
@@ -114,18 +118,23 @@ fn add_prints(page: &mut Content, layout: &Layout, scene: &Scene, console: &[u8]
     let mut last_lane = 0;
     let mut last_x = 0;
     for mark in scene.marks.as_slice() {
-        if mark.kind == Kind::Print {
+        if matches!(mark.kind, Kind::Print) {
             let x = layout.middle_x(mark.from);
             let y = layout.lane_y(mark.lane);
-            let to = mark.other.min(mark.value.saturating_add(MOST_PRINTS));
-            let words = part_of(console, mark.value, to);
-            let half = 4 + 3 * words.len().min(MOST_PRINTS);
-            page.shape("mark", INHERIT, x, y + 2, "l-3 -5h6z");
+            let line = printed(mark, console);
+            let half = 4 + 3 * line.len().min(MOST_PRINTS);
+            page.shape(Class::Mark, Color::Inherit, x, y + 2, "l-3 -5h6z");
             if mark.lane != last_lane || x >= half.saturating_add(last_x) {
-                page.label("name small mid", INHERIT, x, y - 5, words);
+                page.label(Class::Output, Color::Inherit, x, y - 5, line);
                 last_lane = mark.lane;
                 last_x = x + half;
             }
         }
     }
+}
+
+/// The first bytes of a line of output.
+fn printed<'a>(print: &Mark, console: &'a [u8]) -> &'a [u8] {
+    let to = print.other.min(print.value.saturating_add(MOST_PRINTS));
+    part_of(console, print.value, to)
 }

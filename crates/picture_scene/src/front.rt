@@ -9,7 +9,7 @@ use crate::lines::add_fields;
 use crate::scene::Scene;
 use crate::stripes::add_stripes;
 use crate::tooltips::add_names;
-use svg_text::{Content, INHERIT};
+use svg_text::{Class, Color, Content};
 
 /// How wide events are at least that have lines between them.
 const CUT_WIDTH: usize = 4;
@@ -37,8 +37,8 @@ pub fn add_front(page: &mut Content, layout: &Layout, scene: &Scene, console: &[
 fn add_cuts(page: &mut Content, layout: &Layout) {
     let height = layout.collector_y - TOP;
     for event in 1..layout.count {
-        page.put_point("M", layout.x(layout.start.saturating_add(event)), TOP);
-        page.put_number("v", height);
+        page.put_point('M', layout.x(layout.start.saturating_add(event)), TOP);
+        page.put_command('v', height);
     }
-    page.path("cut", INHERIT);
+    page.path(Class::Cut, Color::Inherit);
 }

@@ -1,11 +1,11 @@
 //! What lies below the rows: titles, the grounds of the lanes, tints of phases, the grid, and times of life and of waiting.
 
 use crate::layout::{LEFT, Layout, RIGHT, TOP, WHOLE_WIDTH, WIDTH};
-use crate::marks::{COLLECTOR, Kind};
+use crate::marks::{COLLECTOR, Kind, Mark};
+use crate::phases::class_of_phase;
 use crate::scene::Scene;
-use crate::style::{STYLE, color_of, phase_style};
 use std::alloc::Global;
-use svg_text::{Area, Content, INHERIT, Tag};
+use svg_text::{Area, Class, Color, Content, STYLE, Tag};
 
 /// Appends the style, the titles and the grounds of the lanes.
 pub fn add_ground(page: &mut Content, layout: &Layout, scene: &Scene) {
@@ -16,7 +16,7 @@ pub fn add_ground(page: &mut Content, layout: &Layout, scene: &Scene) {
         height: layout.height,
     };
     page.words(Tag::Style, &[], STYLE.as_bytes());
-    page.rect("back", whole);
+    page.rect(Class::Back, whole);
     add_titles(page, layout, scene);
     for thread in 0..layout.lanes {
         add_lane(page, layout, thread);
@@ -28,43 +28,53 @@ pub fn add_ground(page: &mut Content, layout: &Layout, scene: &Scene) {
 
 /// The titles: which events are drawn, and how many threads and cycles of the collector there are.
 fn add_titles(page: &mut Content, layout: &Layout, scene: &Scene) {
-    if layout.is_empty {
-        page.put("no event");
-    } else {
-        page.put("events ");
-        put_grouped(page, layout.start.saturating_add(1));
-        page.put(" to ");
-        put_grouped(page, layout.end());
-    }
-    page.text("head", INHERIT, 24, 28);
+    put_events(page, layout);
+    page.text(Class::Head, Color::Inherit, 24, 28);
     put_count(page, layout.lanes, " thread");
     if layout.has_collector {
         page.put(", ");
         put_count(page, scene.cycles, " cycle");
         page.put(" of the collector");
     }
-    page.text("quiet", INHERIT, 24, 48);
+    page.text(Class::Quiet, Color::Inherit, 24, 48);
+}
+
+/// Puts which events are drawn.
+fn put_events(page: &mut Content, layout: &Layout) {
+    if layout.is_empty {
+        page.put("no event");
+    } else {
+        put_event(page, "events ", layout.start);
+        page.put(" to ");
+        put_grouped(page, layout.end());
+    }
 }
 
 /// Puts how many there are, and what they are.
 fn put_count(page: &mut Content, count: usize, what: &str) {
-    page.put_number("", count);
+    page.put_number(count);
     page.put(what);
     if count != 1 {
         page.put("s");
     }
 }
 
+/// Puts words, and the number from 1 of an event, given that from 0.
+pub(crate) fn put_event(page: &mut Content, words: &str, event: usize) {
+    page.put(words);
+    put_grouped(page, event.saturating_add(1));
+}
+
 /// Puts a number with a comma between each three digits.
 pub(crate) fn put_grouped(page: &mut Content, number: usize) {
     let thousands = number / 1_000;
     if thousands == 0 {
-        page.put_number("", number);
+        page.put_number(number);
     } else if thousands < 1_000 {
-        page.put_number("", thousands);
+        page.put_number(thousands);
         put_three(page, number);
     } else {
-        page.put_number("", thousands / 1_000);
+        page.put_number(thousands / 1_000);
         put_three(page, thousands);
         put_three(page, number);
     }
@@ -72,9 +82,9 @@ pub(crate) fn put_grouped(page: &mut Content, number: usize) {
 
 /// Puts a comma and the last three digits of a number.
 fn put_three(page: &mut Content, number: usize) {
-    page.put_number(",", number / 100 % 10);
-    page.put_number("", number / 10 % 10);
-    page.put_number("", number % 10);
+    page.put_command(',', number / 100 % 10);
+    page.put_number(number / 10 % 10);
+    page.put_number(number % 10);
 }
 
 /// The ground of a lane.
@@ -85,7 +95,7 @@ fn add_lane(page: &mut Content, layout: &Layout, lane: usize) {
         width: WIDTH,
         height: layout.lane_height(lane),
     };
-    page.rect("lane", area);
+    page.rect(Class::Lane, area);
 }
 
 /// The tints of all lanes, where x counts events: of a thread's by the phases that it has acknowledged, of the collector's by those that it has posted.
@@ -104,35 +114,36 @@ pub fn tints(alloc: Global, layout: &Layout, scene: &Scene) -> Content {
 fn add_tints(content: &mut Content, layout: &Layout, scene: &Scene, lane: usize, end: usize) {
     let end = end.min(layout.end());
     for mark in scene.marks.as_slice() {
-        let to = mark.to.min(end);
-        let (class, _name) = phase_style(mark.value);
-        if mark.kind == Kind::Phase && mark.lane == lane && mark.from < to && !class.is_empty() {
-            let area = Area {
-                x: mark.from,
-                y: layout.lane_y(lane),
-                width: to - mark.from,
-                height: layout.lane_height(lane),
-            };
-            content.rect(class, area);
+        if mark.is(Kind::Phase, lane) && mark.value > 0 {
+            add_tint(content, layout, mark, mark.to.min(end));
         }
     }
 }
 
-/// How many events are between two lines of the grid, of which there are at most thirteen.
-fn grid_step(count: usize) -> usize {
-    match count {
-        0..=12 => 1,
-        13..=24 => 2,
-        25..=60 => 5,
-        61..=120 => 10,
-        121..=240 => 20,
-        241..=600 => 50,
-        601..=1_200 => 100,
-        1_201..=2_400 => 200,
-        2_401..=6_000 => 500,
-        6_001..=12_000 => 1_000,
-        _ => 2_000,
+/// The tint of a phase, up to an event.
+fn add_tint(content: &mut Content, layout: &Layout, phase: &Mark, to: usize) {
+    if phase.from < to {
+        let area = Area {
+            x: phase.from,
+            y: layout.lane_y(phase.lane),
+            width: to - phase.from,
+            height: layout.lane_height(phase.lane),
+        };
+        content.rect(class_of_phase(phase.value), area);
     }
+}
+
+/// How many events are between two lines of the grid.
+const GRID_STEPS: [usize; 10] = [1, 2, 5, 10, 20, 50, 100, 200, 500, 1_000];
+
+/// The first of these steps by which at most thirteen lines are drawn. The largest pictures have a larger one.
+fn grid_step(count: usize) -> usize {
+    for step in &GRID_STEPS {
+        if count <= step.saturating_mul(12) {
+            return *step;
+        }
+    }
+    2_000
 }
 
 /// The lines of the grid and their numbers.
@@ -144,12 +155,12 @@ fn add_grid(page: &mut Content, layout: &Layout) {
         let at = from.saturating_add(tick).saturating_mul(step);
         if at <= layout.end() {
             let x = layout.x(at);
-            page.line("grid", INHERIT, x, TOP - 4, "V", y);
+            page.line(Class::Grid, Color::Inherit, x, TOP - 4, 'V', y);
             put_grouped(page, at);
-            page.text("quiet mid", INHERIT, x, y + 14);
+            page.text(Class::QuietMiddle, Color::Inherit, x, y + 14);
         }
     }
-    page.label("quiet", INHERIT, RIGHT + 30, y + 14, b"events");
+    page.label(Class::Quiet, Color::Inherit, RIGHT + 30, y + 14, b"events");
 }
 
 /// Appends the grid, the line of the life of each thread, and its times of waiting.
@@ -157,8 +168,9 @@ pub fn add_below(page: &mut Content, layout: &Layout, scene: &Scene) {
     add_grid(page, layout);
     for (thread, lane) in scene.lanes.as_slice().iter().enumerate() {
         let y = layout.middle_y(thread);
+        let from = layout.x(lane.from);
         let to = layout.x(lane.to);
-        page.line("life", color_of(thread), layout.x(lane.from), y, "H", to);
+        page.line(Class::Life, Color::Thread(thread), from, y, 'H', to);
         add_waits(page, layout, scene, thread, y);
     }
 }
@@ -166,18 +178,15 @@ pub fn add_below(page: &mut Content, layout: &Layout, scene: &Scene) {
 /// The times of waiting of a thread.
 fn add_waits(page: &mut Content, layout: &Layout, scene: &Scene, thread: usize, y: usize) {
     let class = if layout.is_compact {
-        "hatch slim"
+        Class::HatchSlim
     } else {
-        "hatch"
+        Class::Hatch
     };
     for mark in scene.marks.as_slice() {
         let from = layout.x(mark.from);
         let to = layout.x(mark.to);
-        if mark.lane == thread
-            && (mark.kind == Kind::Wait || mark.kind == Kind::Join)
-            && from < to
-        {
-            page.line(class, INHERIT, from, y, "H", to);
+        if mark.is_wait(thread) && from < to {
+            page.line(class, Color::Inherit, from, y, 'H', to);
         }
     }
 }

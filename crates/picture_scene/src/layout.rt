@@ -174,6 +174,17 @@ impl Layout {
         self.lane_y(thread) + half
     }
 
+    /// How far below the top the stripes of a lane at a depth are.
+    pub(crate) fn stripe_y(&self, lane: usize, depth: usize) -> usize
+        ensures { result ≤ 890 }
+    {
+        if self.is_compact {
+            self.lane_y(lane) + 22 + 4 * depth.min(1)
+        } else {
+            self.lane_y(lane) + 30 + 7 * depth.min(2)
+        }
+    }
+
     /// How far below the top a number of words is in the curve of the heap, given the greatest number.
     pub(crate) fn level(&self, words: usize, most: usize) -> usize {
         let height = words.min(most).saturating_mul(HEAP_HEIGHT - 8) / most.max(1);

@@ -3,68 +3,131 @@
 use crate::layout::Layout;
 use crate::marks::Kind;
 use crate::scene::Scene;
-use crate::style::{color_of, color_of_monitor};
-use svg_text::{Content, INHERIT};
+use svg_text::{Class, Color, Content};
 
-/// Where the next sample of a legend stands.
+/// What is in a picture.
 #[derive(Clone, Copy)]
-struct Legend {
-    x: usize,
-    y: usize,
+enum Feature {
+    Step,
+    Wait,
+    Monitor,
+    Update,
+    LostUpdate,
+    Collector,
 }
 
-impl Legend {
-    /// A sample in its color, and what it means.
-    fn add(&mut self, page: &mut Content, class: &str, color: &str, words: &str) {
-        page.shape(class, color, self.x, self.y, "h16");
-        page.label(
-            "quiet",
-            INHERIT,
-            self.x.saturating_add(22),
-            self.y.saturating_add(4),
-            words.as_bytes(),
-        );
-        self.x = self.x.saturating_add(40 + 6 * words.len().min(40));
-    }
+/// A sample in its color, and what it means.
+#[derive(Clone, Copy)]
+struct Sample {
+    /// What it is drawn for.
+    feature: Feature,
+    class: Class,
+    color: Color,
+    words: &'static str,
 }
 
-/// Appends a sample of each thing that is in the picture.
+/// All samples, from left to right.
+const SAMPLES: [Sample; 10] = [
+    Sample {
+        feature: Feature::Step,
+        class: Class::StepKey,
+        color: Color::Thread(0),
+        words: "a step",
+    },
+    Sample {
+        feature: Feature::Wait,
+        class: Class::BlockKey,
+        color: Color::Inherit,
+        words: "a blocked step",
+    },
+    Sample {
+        feature: Feature::Wait,
+        class: Class::HatchKey,
+        color: Color::Inherit,
+        words: "it waits",
+    },
+    Sample {
+        feature: Feature::Monitor,
+        class: Class::Held,
+        color: Color::Monitor(0),
+        words: "a monitor",
+    },
+    Sample {
+        feature: Feature::Update,
+        class: Class::Update,
+        color: Color::Thread(0),
+        words: "load to store",
+    },
+    Sample {
+        feature: Feature::LostUpdate,
+        class: Class::Lost,
+        color: Color::Inherit,
+        words: "lost update",
+    },
+    Sample {
+        feature: Feature::Collector,
+        class: Class::Acknowledgement,
+        color: Color::Inherit,
+        words: "an acknowledgement",
+    },
+    Sample {
+        feature: Feature::Collector,
+        class: Class::WorkKey,
+        color: Color::Inherit,
+        words: "the collector works",
+    },
+    Sample {
+        feature: Feature::Collector,
+        class: Class::PauseKey,
+        color: Color::Inherit,
+        words: "it waits for a thread",
+    },
+    Sample {
+        feature: Feature::Collector,
+        class: Class::CycleKey,
+        color: Color::Inherit,
+        words: "it ends a cycle",
+    },
+];
+
+/// Appends a sample of each feature that is in the picture.
 pub(crate) fn add_legend(page: &mut Content, layout: &Layout, scene: &Scene) {
-    let mut legend = Legend {
-        x: 24,
-        y: layout.legend_y + 6,
-    };
-    legend.add(page, "step key", color_of(0), "a step");
-    if scene.count(Kind::Wait) > 0 || scene.count(Kind::Join) > 0 {
-        legend.add(page, "block key", INHERIT, "a blocked step");
-        legend.add(page, "hatch key", INHERIT, "it waits");
+    let y = layout.legend_y + 6;
+    let mut x = 24usize;
+    for sample in &SAMPLES {
+        if has(scene, layout, sample.feature) {
+            add_sample(page, sample, x, y);
+            x = x.saturating_add(40 + 6 * sample.words.len().min(40));
+        }
     }
-    if scene.monitors > 0 {
-        legend.add(page, "held", color_of_monitor(0), "a monitor");
-    }
-    if has_update(scene) {
-        legend.add(page, "update", color_of(0), "load to store");
-    }
-    if scene.count(Kind::LostUpdate) > 0 {
-        legend.add(page, "lost", INHERIT, "lost update");
-    }
-    if layout.has_collector {
-        legend.add(page, "ack", INHERIT, "an acknowledgement");
-        legend.add(page, "work key", INHERIT, "the collector works");
-        legend.add(page, "pause key", INHERIT, "it waits for a thread");
-        legend.add(page, "cycle key", INHERIT, "it ends a cycle");
+}
+
+/// Appends a sample at a point.
+fn add_sample(page: &mut Content, sample: &Sample, x: usize, y: usize) {
+    let words = sample.words.as_bytes();
+    let right = x.saturating_add(22);
+    let below = y.saturating_add(4);
+    page.shape(sample.class, sample.color, x, y, "h16");
+    page.label(Class::Quiet, Color::Inherit, right, below, words);
+}
+
+/// Whether a picture has such a feature.
+fn has(scene: &Scene, layout: &Layout, feature: Feature) -> bool {
+    match feature {
+        Feature::Step => true,
+        Feature::Wait => scene.count(Kind::Wait) > 0 || scene.count(Kind::Join) > 0,
+        Feature::Monitor => scene.monitors > 0,
+        Feature::Update => has_update(scene),
+        Feature::LostUpdate => scene.count(Kind::LostUpdate) > 0,
+        Feature::Collector => layout.has_collector,
     }
 }
 
 /// Whether there is an update of a field that at least two threads load or store.
 fn has_update(scene: &Scene) -> bool {
     for mark in scene.marks.as_slice() {
-        if mark.kind == Kind::Update || mark.kind == Kind::LostUpdate {
-            if let Some(field) = scene.fields.as_slice().get(mark.value) {
-                if field.is_shared {
-                    return true;
-                }
-            }
+        if matches!(mark.kind, Kind::Update | Kind::LostUpdate) && scene.is_shared(mark.value) {
+            return true;
         }
     }
     false

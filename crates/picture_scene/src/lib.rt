@@ -11,9 +11,9 @@ mod layout;
 mod legend;
 mod lines;
 mod marks;
+mod phases;
 mod scene;
 mod stripes;
-mod style;
 mod tooltips;
 
 pub use front::add_front;
@@ -22,5 +22,4 @@ pub use layout::{LEFT, Layout, WHOLE_WIDTH, WIDTH};
 pub use marks::{COLLECTOR, Kind, Mark, Part};
 pub use scene::{Deadlock, Field, Lane, Scene};
 pub use stripes::letter_of;
-pub use style::color_of;
 pub use tooltips::{MOST_TIPS, tips};

@@ -60,6 +60,21 @@ impl Mark {
             other,
         }
     }
+
+    /// Whether it is of this kind in a lane.
+    pub(crate) fn is(&self, kind: Kind, lane: usize) -> bool {
+        self.kind == kind && self.lane == lane
+    }
+
+    /// Whether it is a time of waiting of a thread.
+    pub(crate) fn is_wait(&self, thread: usize) -> bool {
+        self.lane == thread && matches!(self.kind, Kind::Wait | Kind::Join)
+    }
+
+    /// Whether it is an update of the static field of this index.
+    pub(crate) fn is_update(&self, field: usize) -> bool {
+        self.value == field && matches!(self.kind, Kind::Update | Kind::LostUpdate)
+    }
 }
 
 /// A range of bytes of the text of a scene.

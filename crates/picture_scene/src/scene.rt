@@ -169,7 +169,7 @@ impl Scene {
     {
         for index in (0..self.open.len()).rev() {
             let mark = self.open[index];
-            if mark.kind == kind && mark.lane == lane && mark.value == value.unwrap_or(mark.value) {
+            if mark.is(kind, lane) && mark.value == value.unwrap_or(mark.value) {
                 return Some(index);
             }
         }
@@ -180,7 +180,7 @@ impl Scene {
     pub fn end(&mut self, kind: Kind, lane: usize, value: Option<usize>, to: usize) {
         if let Some(index) = self.find(kind, lane, value) {
             let mark = self.open.remove(index);
-            if mark.from < to || kind != Kind::Held {
+            if mark.from < to || !matches!(kind, Kind::Held) {
                 self.add(Mark { to, ..mark });
             }
         }
@@ -196,7 +196,7 @@ impl Scene {
             let _last = self.open.remove(index);
             if last.from < at {
                 self.add(Mark { to: at, ..last });
-                self.has_collector = self.has_collector || kind == Kind::Phase && lane == COLLECTOR;
+                self.has_collector = self.has_collector || last.is(Kind::Phase, COLLECTOR);
             }
         }
         self.begin(kind, lane, at, value, other);
@@ -219,7 +219,7 @@ impl Scene {
     /// Whether the thread of a lane holds a monitor in the stripe of this depth.
     fn is_held(&self, lane: usize, depth: usize) -> bool {
         for mark in self.open.as_slice() {
-            if mark.kind == Kind::Held && mark.lane == lane && mark.other == depth {
+            if mark.is(Kind::Held, lane) && mark.other == depth {
                 return true;
             }
         }
@@ -285,7 +285,7 @@ impl Scene {
                 self.shared = self.shared.saturating_add(1);
             }
         }
-        if kind == Kind::Store {
+        if matches!(kind, Kind::Store) {
             self.update(lane, at, field);
         }
         self.add(Mark::at(kind, lane, at, field, 0));
@@ -296,16 +296,15 @@ impl Scene {
         let mut lost = None;
         for index in (0..self.marks.len()).rev() {
             let mark = self.marks[index];
-            let is_store = mark.kind == Kind::Store;
-            if mark.value == field && (is_store || mark.kind == Kind::Load) {
-                if mark.lane == lane {
-                    if !is_store {
+            if mark.value == field {
+                match mark.kind {
+                    Kind::Load if mark.lane == lane => {
                         self.add_update(Mark { to, ..mark }, lost);
+                        return;
                     }
-                    return;
-                }
-                if is_store && lost.is_none() {
-                    lost = Some(index);
+                    Kind::Store if mark.lane == lane => return,
+                    Kind::Store if lost.is_none() => lost = Some(index),
+                    _ => {}
                 }
             }
         }
@@ -345,6 +344,14 @@ impl Scene {
             }
         }
         count
+    }
+
+    /// Whether at least two threads load or store the static field of this index.
+    pub(crate) fn is_shared(&self, field: usize) -> bool {
+        match self.fields.as_slice().get(field) {
+            Some(field) => field.is_shared,
+            None => false,
+        }
     }
 
     /// A part of the text. Empty if it has no such part.

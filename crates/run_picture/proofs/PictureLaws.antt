@@ -14,7 +14,7 @@ use Rattle.event_trace.specs.interleaving_core.simulation.Transitions.{IsTransit
 use Rattle.event_trace.proofs.interleaving_core.Runs.FollowedRuns.{SameProgram, transitions_length, transitions_more, transitions_program}
 use Rattle.outputs.specs.Beginnings.{AppendsBeginning}
 use Rattle.event_trace.specs.Deadlocks.{IsDeadlockOf}
-use Rattle.run_picture.specs.Pictures.{IsDrawing, IsDrawn, IsPicture, IsPictureInPart}
+use Rattle.run_picture.specs.Pictures.{AreSketched, IsDrawing, IsDrawn, IsPicture, IsPictureInPart}
 use Rattle.run_picture.specs.Paths.{HasRow}
 use Rattle.run_picture.specs.Sentences.{deadlock_sentence}
 use Rattle.run_picture.specs.Rows.{drawn_rows, number_in, numbers_of}
@@ -23,18 +23,11 @@ use Rattle.run_picture.specs.declared.rows.TheConstants.{ROWS}
 use Rattle.run_picture.specs.declared.windows.Window.{Window}
 use Rattle.run_picture.proofs.RowLaws.{many_drawn, numbers_more, row_drawn, rows_empty}
 
--- the events are done, and the rows draw those in the window
-pub record SketchedSoFar (c : MachineState) (es : List Event) (d : MachineState) (w : Window) (rows : List (List ℕ)) : Type 0 where
-  pub reports : List Report
-  pub transitions : AreTransitions c es d reports
-  pub many : length rows ≡ ROWS
-  pub drawn : (row : ℕ) → row < ROWS → get_or rows row [] ≡ numbers_of w row 0 es reports
-
-pub sketch_begun : (c : MachineState) (w : Window) (rows : List (List ℕ)) → rows ≡ replicate ROWS [] → length rows ≡ ROWS → SketchedSoFar c [] c w rows
+pub sketch_begun : (c : MachineState) (w : Window) (rows : List (List ℕ)) → rows ≡ replicate ROWS [] → length rows ≡ ROWS → AreSketched c [] c w rows
 sketch_begun c w rows e many = record { reports = []; transitions = (refl, refl); many = many; drawn = λ row within. rows_empty rows row e within }
 
-pub sketch_step : (c d after : MachineState) (es : List Event) (w : Window) (n : ℕ) (e : Event) (r : Report) (rows more : List (List ℕ)) → n ≡ length es → SketchedSoFar c es d w rows → IsTransition d e (after, r) →
-    more ≡ drawn_rows w n e r rows → SketchedSoFar c (es ++ e ∷ []) after w more
+pub sketch_step : (c d after : MachineState) (es : List Event) (w : Window) (n : ℕ) (e : Event) (r : Report) (rows more : List (List ℕ)) → n ≡ length es → AreSketched c es d w rows → IsTransition d e (after, r) →
+    more ≡ drawn_rows w n e r rows → AreSketched c (es ++ e ∷ []) after w more
 sketch_step c d after es w n e r rows more is h transition drew = record {
   reports = h.reports ++ r ∷ [];
   transitions = transitions_more c d after es h.reports e r h.transitions transition;
@@ -45,12 +38,12 @@ sketch_step c d after es w n e r rows more is h transition drew = record {
       ∙ sym (numbers_more w row 0 es h.reports e r (transitions_length c d es h.reports h.transitions));
 }
 
-pub same_so_far : (c d : MachineState) (es : List Event) (w : Window) (rows : List (List ℕ)) → SketchedSoFar c es d w rows → SameProgram c d
+pub same_so_far : (c d : MachineState) (es : List Event) (w : Window) (rows : List (List ℕ)) → AreSketched c es d w rows → SameProgram c d
 same_so_far c d es w rows h = transitions_program c d es h.reports h.transitions
 
 -- ---- all events are done
 
-module _ (c d : MachineState) (es : List Event) (window : Window) (rows : List (List ℕ)) (text : List ℕ) (h : SketchedSoFar c es d (clamp window) rows) (set : List Bool) (deadlocked : IsDeadlockOf d set) (drawn : IsDrawn text rows (deadlock_sentence set)) where
+module _ (c d : MachineState) (es : List Event) (window : Window) (rows : List (List ℕ)) (text : List ℕ) (h : AreSketched c es d (clamp window) rows) (set : List Bool) (deadlocked : IsDeadlockOf d set) (drawn : IsDrawn text rows (deadlock_sentence set)) where
   drawing : IsDrawing window es h.reports d text
   drawing = record {
     formed = drawn.formed;
@@ -75,7 +68,7 @@ module _ (c d : MachineState) (es : List Event) (window : Window) (rows : List (
 -- ---- not all events are done
 
 -- no more events are done
-pub stopped_before : (c d after : MachineState) (all es rest : List Event) (w window : Window) (rows : List (List ℕ)) (out : Option (List ℕ)) → all ≡ es ++ rest → SketchedSoFar c es d w rows → after ≡ d → IsPictureInPart c all after window out out
+pub stopped_before : (c d after : MachineState) (all es rest : List Event) (w window : Window) (rows : List (List ℕ)) (out : Option (List ℕ)) → all ≡ es ++ rest → AreSketched c es d w rows → after ≡ d → IsPictureInPart c all after window out out
 stopped_before c d after all es rest w window rows out split h same =
     let front : es ≡ take (length es) all = sym (ap (take (length es)) split ∙ take-append_seam es rest) in
     record {
@@ -87,7 +80,7 @@ stopped_before c d after all es rest w window rows out split h same =
     }
 
 -- the next event isn't done, or it is
-pub stopped_at : (c d after : MachineState) (all es : List Event) (e : Event) (rest : List Event) (w window : Window) (rows : List (List ℕ)) (out : Option (List ℕ)) → all ≡ es ++ e ∷ rest → SketchedSoFar c es d w rows →
+pub stopped_at : (c d after : MachineState) (all es : List Event) (e : Event) (rest : List Event) (w window : Window) (rows : List (List ℕ)) (out : Option (List ℕ)) → all ≡ es ++ e ∷ rest → AreSketched c es d w rows →
     (after ≡ d) ⊎ ((r : Report) × IsTransition d e (after, r)) → IsPictureInPart c all after window out out
 stopped_at c d after all es e rest w window rows out split h (inl same) = stopped_before c d after all es (e ∷ rest) w window rows out split h same
 stopped_at c d after all es e rest w window rows out split h (inr done) =
@@ -104,22 +97,22 @@ stopped_at c d after all es e rest w window rows out split h (inr done) =
 -- ---- item by item
 
 module _ (c d : MachineState) (items : List Item) (i : ℕ) (w : Window) (rows : List (List ℕ)) where
-  pub sketched_none : (e : Event) → SketchedSoFar c (events_of (take i items)) d w rows → SketchedSoFar c (so_far items i e 0) d w rows
-  sketched_none e h = subst (λ es. SketchedSoFar c es d w rows) (sym (so_far_none items i e)) h
+  pub sketched_none : (e : Event) → AreSketched c (events_of (take i items)) d w rows → AreSketched c (so_far items i e 0) d w rows
+  sketched_none e h = subst (λ es. AreSketched c es d w rows) (sym (so_far_none items i e)) h
 
-  pub sketched_time : (e : Event) (k n : ℕ) (r : Report) (after : MachineState) (more : List (List ℕ)) (own : Window) → own ≡ w → n ≡ length (so_far items i e k) → SketchedSoFar c (so_far items i e k) d w rows → IsTransition d e (after, r) →
-      more ≡ drawn_rows own n e r rows → SketchedSoFar c (so_far items i e (k + 1)) after w more
+  pub sketched_time : (e : Event) (k n : ℕ) (r : Report) (after : MachineState) (more : List (List ℕ)) (own : Window) → own ≡ w → n ≡ length (so_far items i e k) → AreSketched c (so_far items i e k) d w rows → IsTransition d e (after, r) →
+      more ≡ drawn_rows own n e r rows → AreSketched c (so_far items i e (k + 1)) after w more
   sketched_time e k n r after more own same is h transition drew =
-      subst (λ es. SketchedSoFar c es after w more) (so_far_more items i e k)
+      subst (λ es. AreSketched c es after w more) (so_far_more items i e k)
       (sketch_step c d after (so_far items i e k) w n e r rows more is h transition (drew ∙ ap (λ (v : Window). drawn_rows v n e r rows) same))
 
-  pub sketched_item : (x : Item) (k : ℕ) → i < length items → (get_or items i x).count ≤ k → k ≤ (get_or items i x).count → SketchedSoFar c (so_far items i (get_or items i x).event k) d w rows →
-      SketchedSoFar c (events_of (take (i + 1) items)) d w rows
+  pub sketched_item : (x : Item) (k : ℕ) → i < length items → (get_or items i x).count ≤ k → k ≤ (get_or items i x).count → AreSketched c (so_far items i (get_or items i x).event k) d w rows →
+      AreSketched c (events_of (take (i + 1) items)) d w rows
   sketched_item x k below past within h =
       let all : k ≡ (get_or items i x).count = omega (arith, past, within) in
-      subst (λ es. SketchedSoFar c es d w rows) (ap (λ m. so_far items i (get_or items i x).event m) all ∙ so_far_all items i x below) h
+      subst (λ es. AreSketched c es d w rows) (ap (λ m. so_far items i (get_or items i x).event m) all ∙ so_far_all items i x below) h
 
-  pub item_cut : (x : Item) (k : ℕ) (after : MachineState) (window : Window) (out : Option (List ℕ)) → i < length items → k < (get_or items i x).count → SketchedSoFar c (so_far items i (get_or items i x).event k) d w rows →
+  pub item_cut : (x : Item) (k : ℕ) (after : MachineState) (window : Window) (out : Option (List ℕ)) → i < length items → k < (get_or items i x).count → AreSketched c (so_far items i (get_or items i x).event k) d w rows →
       (after ≡ d) ⊎ ((r : Report) × IsTransition d (get_or items i x).event (after, r)) → IsPictureInPart c (events_of items) after window out out
   item_cut x k after window out below few h cut =
       let e = (get_or items i x).event in

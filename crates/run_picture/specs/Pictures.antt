@@ -16,6 +16,13 @@ use Rattle.run_picture.specs.Windows.{clamp}
 use Rattle.run_picture.specs.declared.rows.TheConstants.{ROWS}
 use Rattle.run_picture.specs.declared.windows.Window.{Window}
 
+-- the events are done in order, and each row draws exactly the numbers of its own events in a window
+pub record AreSketched (old : MachineState) (events : List Event) (new : MachineState) (window : Window) (rows : List (List ℕ)) : Type 0 where
+  pub reports : List Report
+  pub transitions : AreTransitions old events new reports
+  pub many : length rows ≡ ROWS
+  pub drawn : (row : ℕ) → row < ROWS → get_or rows row [] ≡ numbers_of window row 0 events reports
+
 -- a document of well-formed text, which has a path of each of these rows, and this sentence
 pub record IsDrawn (text : List ℕ) (rows : List (List ℕ)) (sentence : List ℕ) : Type 0 where
   pub formed : ∥ IsDocument text ∥₁

@@ -11,7 +11,7 @@ use picture_scene::{
     Layout, MOST_TIPS, Scene, WHOLE_WIDTH, add_below, add_front, add_ground, tints, tips,
 };
 use std::alloc::Global;
-use svg_text::{Attribute, Content, Name, Tag};
+use svg_text::{Attribute, Class, Content, Name, Tag};
 
 /// The document of what was gathered, and of what was printed.
 pub(crate) fn document(
@@ -86,7 +86,7 @@ fn deadlock_content(alloc: Global, layout: &Layout, sentence: &str) -> Content
     content.words(
         Tag::Text,
         &[
-            Attribute::words(Name::Class, "bad"),
+            Attribute::words(Name::Class, Class::Bad.name()),
             Attribute::number(Name::X, 24),
             Attribute::number(Name::Y, layout.deadlocked_y),
         ],

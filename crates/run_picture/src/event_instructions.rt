@@ -1,6 +1,7 @@
 //! The instruction of an event, and its short name.
 
 use cil_model::instructions::{Instruction, MethodName};
+use cil_model::texts::Text;
 use event_trace::InstructionPosition;
 use instruction_text::{CharactersText, InstructionText, MethodNameText};
 use name_tables::bodies::lines_of;
@@ -8,7 +9,7 @@ use std::fmt;
 use std::fmt::Display;
 
 /// The instruction at a position. None after the last instruction of a method.
-pub(crate) fn instruction_of(at: Option<InstructionPosition<'_>>) -> Option<&Instruction> {
+pub(crate) fn instruction_of<'a>(at: Option<&InstructionPosition<'a>>) -> Option<&'a Instruction> {
     let at = at?;
     let line = lines_of(at.found.method).get(at.pc as usize)?;
     Some(&line.instruction)
@@ -31,21 +32,28 @@ pub(crate) struct ShortInstruction<'a>(pub(crate) &'a Instruction);
 
 impl<'a> fmt::Display for ShortInstruction<'a> {
     fn fmt<W: fmt::Write>(&self, f: &mut fmt::Formatter<W>) -> fmt::Result {
-        let (word, name) = match self.0 {
-            Instruction::Call { method, .. } => {
-                return write!(f, "{}()", MethodNameText(&method.name));
-            }
-            Instruction::CallVirtual { name, .. } => return write!(f, "{}()", CharactersText(name)),
+        match self.0 {
+            Instruction::Call { method, .. } => write!(f, "{}()", MethodNameText(&method.name)),
+            Instruction::CallVirtual { name, .. } => write!(f, "{}()", CharactersText(name)),
             Instruction::NewObject(owner, _) if owner.name.as_str() == "System.Object" => {
-                return f.write_str("new Object");
+                f.write_str("new Object")
             }
-            Instruction::NewObject(owner, _) => ("new", &owner.name),
-            Instruction::LoadField(field) => ("ldfld", &field.name),
-            Instruction::StoreField(field) => ("stfld", &field.name),
-            Instruction::LoadStaticField(field) => ("ldsfld", &field.name),
-            Instruction::StoreStaticField(field) => ("stsfld", &field.name),
-            other => return InstructionText(other).fmt(f),
-        };
-        write!(f, "{word} {}", CharactersText(name))
+            other => match word_and_name(other) {
+                Some((word, name)) => write!(f, "{word} {}", CharactersText(name)),
+                None => InstructionText(other).fmt(f),
+            },
+        }
+    }
+}
+
+/// The word and the name of an instruction that names a class or a field. None for others.
+fn word_and_name(instruction: &Instruction) -> Option<(&'static str, &Text)> {
+    match instruction {
+        Instruction::NewObject(owner, _) => Some(("new", &owner.name)),
+        Instruction::LoadField(field) => Some(("ldfld", &field.name)),
+        Instruction::StoreField(field) => Some(("stfld", &field.name)),
+        Instruction::LoadStaticField(field) => Some(("ldsfld", &field.name)),
+        Instruction::StoreStaticField(field) => Some(("stsfld", &field.name)),
+        _ => None,
     }
 }

@@ -35,7 +35,7 @@ impl Monitors {
 
     /// The number of an object's monitor, by the address of either copy of the object. None if it has not been entered, or is beyond `MOST_MONITORS`.
     pub(crate) fn number(&self, machine: &Machine, address: Addr) -> Option<usize> {
-        let has_copies = machine.posted_phase() != Phase::Idle;
+        let has_copies = !matches!(machine.posted_phase(), Phase::Idle);
         for known in self.known.as_slice() {
             if known.address == address || has_copies && machine.is_same(known.address, address) {
                 return Some(known.number);

@@ -1,17 +1,18 @@
 //! Runs a machine by the events that items represent, and draws those of a window.
 
-ghost use Rattle.std.specs.Prelude.{◌≡◌, ◌⊎◌, ◌+◌, Bool, IfErr, IfOk, OnErr, OnOk, List, [], replicate, string_bytes};
+ghost use Rattle.std.specs.Prelude.{◌≡◌, ◌⊎◌, ◌+◌, Bool, IfErr, IfOk, OnErr, OnOk, ℕ, List, [], Option, replicate, string_bytes};
 ghost use Rattle.cil_model.specs.declared.reports.Report.{Report as AnyReport};
 ghost use Rattle.event_trace.specs.interleaving_core.simulation.Transitions.{IsTransition};
 ghost use Rattle.outputs.specs.Streams.{HasGrown};
 ghost use Rattle.schedule_text.specs.Items.{events_of};
 ghost use Rattle.event_trace.specs.Deadlocks.{IsDeadlockOf};
 ghost use Rattle.event_trace.specs.MethodPositions.{ArePositionsOf};
-ghost use Rattle.run_picture.specs.Pictures.{IsDrawn, IsPicture, IsPictureInPart};
+ghost use Rattle.run_picture.specs.Pictures.{AreSketched, IsDrawn, IsPicture, IsPictureInPart};
 ghost use Rattle.run_picture.specs.Rows.{drawn_rows};
 ghost use Rattle.run_picture.specs.declared.errors.PictureError.TheVariants.{Device as CantWrite, Memory as MemoryRanOut};
 ghost use Rattle.run_picture.specs.Sentences.{deadlock_sentence};
 ghost use Rattle.run_picture.specs.declared.rows.TheConstants.{ROWS};
+ghost use Rattle.run_picture.specs.declared.windows.Window.{Window as AnyWindow};
 
 use crate::deadlocks::deadlock_sentence;
 use crate::document::document;
@@ -50,13 +51,7 @@ pub fn picture<W: Out>(
 {
     let methods = MethodPositions::new(alloc, machine.tree())?;
     let mut sketch = Sketch::new(alloc, machine, window.clamp())?;
-    let mut number = 0;
-    for item in items {
-        for _time in 0..item.count {
-            sketch.perform(alloc, machine, &methods, number, item.event)?;
-            number = next_number(number)?;
-        }
-    }
+    let number = sketch.perform_all(alloc, machine, &methods, items)?;
     let document = sketch.document(alloc, machine, number)?;
     out.write_whole(document.as_str().as_bytes())?;
     Ok(())
@@ -99,6 +94,31 @@ impl Sketch {
         let rows = Rows::new(alloc)?;
         let seen = Gathering::new(alloc, machine, window.first.saturating_sub(1));
         Ok(Sketch { window, rows, seen })
+    }
+
+    /// Does the events that items represent, in order, and draws those of the window. Returns how many events there are.
+    fn perform_all(
+        &mut self,
+        alloc: Global,
+        machine: &mut Machine,
+        methods: &MethodPositions,
+        items: &[Item],
+    ) -> Result<usize, PictureError>
+        requires positions { ArePositionsOf machine.old.tree methods.now }
+        requires empty { self.old.rows.rows.items ≡ replicate ROWS [] }
+        ensures sketched { OnOk result (AreSketched machine.old (events_of items.now) machine.new self.old.window self.new.rows.rows.items) }
+        ensures same { (machine.new.tree ≡ machine.old.tree) × (machine.new.limits ≡ machine.old.limits) }
+        ensures stopped { OnErr result ((window : AnyWindow) (out : Option (List ℕ)) → IsPictureInPart machine.old (events_of items.now) machine.new window out out) }
+        ensures memory { IfErr result (λ error. error ≡ MemoryRanOut) }
+    {
+        let mut number = 0;
+        for item in items {
+            for _time in 0..item.count {
+                self.perform(alloc, machine, methods, number, item.event)?;
+                number = next_number(number)?;
+            }
+        }
+        Ok(number)
     }
 
     /// Does the event of this number, from 0, and draws it.

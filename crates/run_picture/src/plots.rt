@@ -5,10 +5,10 @@ ghost use Rattle.run_picture.specs.Paths.{Draws, HasPaths};
 
 use crate::rows::{CYCLE_ENDS, KINDS, NO_THREAD, ROWS, Rows, WAITED, WORKED};
 use event_rows::Row;
-use picture_scene::{LEFT, Layout, WIDTH, color_of};
+use picture_scene::{LEFT, Layout, WIDTH};
 use std::alloc::Global;
 use std::fmt::Write;
-use svg_text::{Attribute, Content, INHERIT, Name, Tag};
+use svg_text::{Attribute, Class, Color, Content, Name, Tag};
 
 /// The paths of the rows, each at its height.
 pub(crate) fn rows(alloc: Global, layout: &Layout, rows: &Rows) -> Content
@@ -77,8 +77,8 @@ fn row_y(layout: &Layout, number: usize) -> usize {
 /// How a row is drawn: its class in the style, its color, and its height.
 #[derive(Clone, Copy)]
 struct Ink {
-    class: &'static str,
-    color: &'static str,
+    class: Class,
+    color: Color,
     y: usize,
 }
 
@@ -87,32 +87,32 @@ fn row_ink(layout: &Layout, number: usize) -> Ink {
     let y = row_y(layout, number);
     if number < WORKED {
         let class = thread_class(number % KINDS, layout.is_compact);
-        let color = color_of(number / KINDS);
+        let color = Color::Thread(number / KINDS);
         return Ink { class, color, y };
     }
     let class = match number {
-        WORKED => "work",
-        WAITED => "pause",
-        CYCLE_ENDS => "cycle",
-        _ => "gone",
+        WORKED => Class::Work,
+        WAITED => Class::Pause,
+        CYCLE_ENDS => Class::Cycle,
+        _ => Class::Gone,
     };
     Ink {
         class,
-        color: INHERIT,
+        color: Color::Inherit,
         y,
     }
 }
 
 /// The class of a thread's row of this kind.
-fn thread_class(kind: usize, is_compact: bool) -> &'static str {
+fn thread_class(kind: usize, is_compact: bool) -> Class {
     match kind {
-        0 if is_compact => "step slim",
-        0 => "step",
-        1 if is_compact => "fail slim",
-        1 => "fail",
-        2 if is_compact => "block slim",
-        2 => "block",
-        3 => "ack",
-        _ => "idle",
+        0 if is_compact => Class::StepSlim,
+        0 => Class::Step,
+        1 if is_compact => Class::FailSlim,
+        1 => Class::Fail,
+        2 if is_compact => Class::BlockSlim,
+        2 => Class::Block,
+        3 => Class::Acknowledgement,
+        _ => Class::Idle,
     }
 }

@@ -144,7 +144,8 @@ impl Gathering {
     ) -> Result<(), NoMemory>
         requires { ArePositionsOf machine.now.tree methods.now }
     {
-        let position = instruction_at(machine, methods, done.before.position);
+        let found = instruction_at(machine, methods, done.before.position);
+        let position = found.as_ref();
         let starter = match done.event {
             Event::Step(thread) if done.is_drawn => Some(thread),
             _ => None,
@@ -171,7 +172,7 @@ impl Gathering {
         alloc: Global,
         machine: &Machine,
         thread: u8,
-        position: Option<InstructionPosition>,
+        position: Option<&InstructionPosition>,
         done: &Done,
     ) -> Result<(), NoMemory> {
         let lane = usize::from(thread);
@@ -179,17 +180,12 @@ impl Gathering {
             self.see_instruction(machine, lane, position, done)?;
         }
         name_lane(&mut self.scene, lane, position)?;
-        match done.report {
-            Report::Blocked => self.see_wait(alloc, machine, thread, done.at)?,
-            Report::Ended(End::Budget) => self.scene.stop(lane, End::Budget, done.at, done.after),
-            Report::Ended(end) => self.scene.stop(lane, end, done.at, done.at),
-            _ => self.scene.advance(lane, done.at),
+        if matches!(done.report, Report::Blocked) {
+            self.see_wait(alloc, machine, thread, done.at)?;
+        } else {
+            see_progress(&mut self.scene, lane, done);
         }
-        let printed = machine.console().len();
-        if done.is_drawn && printed > done.before.printed {
-            let line = Mark::at(Kind::Print, lane, done.at, done.before.printed, printed - 1);
-            self.scene.add(line);
-        }
+        see_output(&mut self.scene, machine.console(), lane, done);
         Ok(())
     }
 
@@ -198,7 +194,7 @@ impl Gathering {
         &mut self,
         machine: &Machine,
         lane: usize,
-        position: Option<InstructionPosition>,
+        position: Option<&InstructionPosition>,
         done: &Done,
     ) -> Result<(), AllocError> {
         let Some(instruction) = instruction_of(position) else {
@@ -274,12 +270,14 @@ impl Gathering {
         done: &Done,
     ) -> Result<(), AllocError> {
         let posted_phase = machine.posted_phase();
-        if posted_phase == Phase::ThreadFlip && posted_phase != done.before.posted_phase {
+        if matches!(posted_phase, Phase::ThreadFlip)
+            && !matches!(done.before.posted_phase, Phase::ThreadFlip)
+        {
             self.monitors.forward(alloc, machine)?;
         }
         if done.is_drawn {
             self.scene.has_collector = true;
-            if done.report == Report::CycleDone {
+            if matches!(done.report, Report::CycleDone) {
                 self.scene.cycles = self.scene.cycles.saturating_add(1);
             }
         }
@@ -314,11 +312,29 @@ fn see_phase(scene: &mut Scene, lane: usize, at: usize, phase: Option<Phase>) {
     scene.change(Kind::Phase, lane, at, position, 0);
 }
 
+/// A step of a thread was not blocked: the thread ends by it, or waits no longer.
+fn see_progress(scene: &mut Scene, lane: usize, done: &Done) {
+    match done.report {
+        Report::Ended(End::Budget) => scene.stop(lane, End::Budget, done.at, done.after),
+        Report::Ended(end) => scene.stop(lane, end, done.at, done.at),
+        _ => scene.advance(lane, done.at),
+    }
+}
+
+/// What a step of a thread has printed, given all that is printed.
+fn see_output(scene: &mut Scene, console: &[u8], lane: usize, done: &Done) {
+    let from = done.before.printed;
+    let to = console.len();
+    if done.is_drawn && to > from {
+        scene.add(Mark::at(Kind::Print, lane, done.at, from, to - 1));
+    }
+}
+
 /// An acknowledgement of a thread.
 fn see_acknowledgement(scene: &mut Scene, machine: &Machine, thread: u8, done: &Done) {
     let lane = usize::from(thread);
     see_phase(scene, lane, done.after, machine.phase_of(thread));
-    if done.is_drawn && done.report == Report::Acked {
+    if done.is_drawn && matches!(done.report, Report::Acked) {
         scene.add(Mark::at(Kind::Ack, lane, done.at, 0, 0));
     }
 }
@@ -327,7 +343,7 @@ fn see_acknowledgement(scene: &mut Scene, machine: &Machine, thread: u8, done: &
 fn name_lane(
     scene: &mut Scene,
     lane: usize,
-    position: Option<InstructionPosition>,
+    position: Option<&InstructionPosition>,
 ) -> Result<(), AllocError> {
     let Some(lane) = scene.lanes.as_mut_slice().get_mut(lane) else {
         return Ok(());
@@ -349,26 +365,43 @@ fn name_lane(
 /// its instruction too.
 fn add_tip(
     scene: &mut Scene,
-    position: Option<InstructionPosition>,
+    position: Option<&InstructionPosition>,
     done: &Done,
 ) -> Result<(), AllocError> {
-    let (lane, named) = match done.event {
-        Event::Step(thread) => (usize::from(thread), instruction_of(position)),
-        Event::Ack(thread) => (usize::from(thread), None),
-        Event::Gc => (COLLECTOR, None),
-    };
     let from = scene.text.len();
     let number = done.at.saturating_add(1);
     let event = EventText(done.event);
     let report = ReportText(done.report);
-    let instruction = InstructionColumn(position);
+    let instruction = InstructionColumn(position.copied());
     write!(scene.text, "{number} {event} {report}: {instruction}")?;
     let to = scene.text.len();
-    scene.add(Mark::at(Kind::Tip, lane, done.at, from, to));
-    if let Some(named) = named {
-        write!(scene.text, "{}", ShortInstruction(named))?;
-        let name_to = scene.text.len();
-        scene.add(Mark::at(Kind::Name, lane, done.at, to, name_to));
+    scene.add(Mark::at(Kind::Tip, lane_of(done.event), done.at, from, to));
+    if matches!(done.event, Event::Step(_)) {
+        return add_short_name(scene, position, done);
     }
     Ok(())
+}
+
+/// Adds the short name of the instruction of a step. Nothing where the thread was after its last one.
+fn add_short_name(
+    scene: &mut Scene,
+    position: Option<&InstructionPosition>,
+    done: &Done,
+) -> Result<(), AllocError> {
+    if let Some(instruction) = instruction_of(position) {
+        let from = scene.text.len();
+        let name = ShortInstruction(instruction);
+        write!(scene.text, "{name}")?;
+        let to = scene.text.len();
+        scene.add(Mark::at(Kind::Name, lane_of(done.event), done.at, from, to));
+    }
+    Ok(())
+}
+
+/// The lane of an event.
+fn lane_of(event: Event) -> usize {
+    match event {
+        Event::Step(thread) | Event::Ack(thread) => usize::from(thread),
+        Event::Gc => COLLECTOR,
+    }
 }

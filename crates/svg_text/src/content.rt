@@ -6,13 +6,11 @@ ghost use Rattle.svg_text.specs.Contents.{Adds, AddsIfWhole, IsContent, IsDocume
 ghost use Rattle.svg_text.specs.declared.markup.Tag.TheVariants.{Svg};
 
 use crate::markup::{Attribute, Escaped, Name, Start, Tag};
+use crate::style::{Class, Color};
 use std::alloc::{AllocError, Global};
 use std::fmt::{Display, Write};
 use std::marker::Model;
 use std::mem;
-
-/// The color of what is drawn without one of its own: that of its class, or of what it stands in.
-pub const INHERIT: &str = "inherit";
 
 /// A part of a picture: its upper left corner and its size.
 #[derive(Clone, Copy)]
@@ -63,9 +61,9 @@ impl Content {
         ensures { Adds self.old self.new (empty_text tag attributes.now) }
     {
         let start = Start { tag, attributes };
-        match format!(in self.alloc; "{start}/>\n") {
-            Ok(piece) => self.add(piece.as_str()),
-            Err(_) => self.lose(),
+        match write!(self.text, "{start}/>\n") {
+            Ok(()) => {}
+            Err(_) => self.is_whole = false,
         }
     }
 
@@ -75,9 +73,9 @@ impl Content {
     {
         let start = Start { tag, attributes };
         let words = Escaped(words);
-        match format!(in self.alloc; "{start}>{words}</{tag}>\n") {
-            Ok(piece) => self.add(piece.as_str()),
-            Err(_) => self.lose(),
+        match write!(self.text, "{start}>{words}</{tag}>\n") {
+            Ok(()) => {}
+            Err(_) => self.is_whole = false,
         }
     }
 
@@ -88,9 +86,9 @@ impl Content {
         if inside.is_whole {
             let start = Start { tag, attributes };
             let inside_text = inside.text.as_str();
-            match format!(in self.alloc; "{start}>{inside_text}</{tag}>\n") {
-                Ok(piece) => self.add(piece.as_str()),
-                Err(_) => self.lose(),
+            match write!(self.text, "{start}>{inside_text}</{tag}>\n") {
+                Ok(()) => {}
+                Err(_) => self.is_whole = false,
             }
         } else {
             self.lose();
@@ -150,11 +148,11 @@ impl Content {
 /// Shapes and labels, each drawn by its class in the style, and in a color.
 impl Content {
     /// Appends a rectangle.
-    pub fn rect(&mut self, class: &str, area: Area) {
+    pub fn rect(&mut self, class: Class, area: Area) {
         self.empty(
             Tag::Rect,
             &[
-                Attribute::words(Name::Class, class),
+                Attribute::words(Name::Class, class.name()),
                 Attribute::number(Name::X, area.x),
                 Attribute::number(Name::Y, area.y),
                 Attribute::number(Name::Width, area.width),
@@ -164,26 +162,26 @@ impl Content {
     }
 
     /// Appends a path of these data.
-    pub fn path_of(&mut self, class: &str, color: &str, data: &str)
+    pub fn path_of(&mut self, class: Class, color: Color, data: &str)
         ensures { (before : List ℕ) × (after : List ℕ) × Adds self.old self.new (before ++ escape data.now ++ after) }
     {
         self.empty(
             Tag::Path,
             &[
-                Attribute::words(Name::Class, class),
-                Attribute::words(Name::Stroke, color),
+                Attribute::words(Name::Class, class.name()),
+                Attribute::words(Name::Stroke, color.text()),
                 Attribute::words(Name::Data, data),
             ],
         );
     }
 
     /// Appends a circle.
-    pub fn circle(&mut self, class: &str, color: &str, x: usize, y: usize, radius: usize) {
+    pub fn circle(&mut self, class: Class, color: Color, x: usize, y: usize, radius: usize) {
         self.empty(
             Tag::Circle,
             &[
-                Attribute::words(Name::Class, class),
-                Attribute::words(Name::Stroke, color),
+                Attribute::words(Name::Class, class.name()),
+                Attribute::words(Name::Stroke, color.text()),
                 Attribute::number(Name::CenterX, x),
                 Attribute::number(Name::CenterY, y),
                 Attribute::number(Name::Radius, radius),
@@ -192,12 +190,12 @@ impl Content {
     }
 
     /// Appends a label at this point.
-    pub fn label(&mut self, class: &str, color: &str, x: usize, y: usize, words: &[u8]) {
+    pub fn label(&mut self, class: Class, color: Color, x: usize, y: usize, words: &[u8]) {
         self.words(
             Tag::Text,
             &[
-                Attribute::words(Name::Class, class),
-                Attribute::words(Name::Fill, color),
+                Attribute::words(Name::Class, class.name()),
+                Attribute::words(Name::Fill, color.text()),
                 Attribute::number(Name::X, x),
                 Attribute::number(Name::Y, y),
             ],
@@ -206,14 +204,15 @@ impl Content {
     }
 
     /// Appends a label that is turned by 90 degrees at this point, to be read upwards.
-    pub fn label_up(&mut self, class: &str, x: usize, y: usize, words: &[u8]) {
-        self.put_point("translate(", x, y);
+    pub fn label_up(&mut self, class: Class, x: usize, y: usize, words: &[u8]) {
+        self.put("translate");
+        self.put_point('(', x, y);
         self.put(") rotate(-90)");
         let index = self.take_pending();
         self.words(
             Tag::Text,
             &[
-                Attribute::words(Name::Class, class),
+                Attribute::words(Name::Class, class.name()),
                 Attribute::words(Name::Transform, index.as_str()),
             ],
             words,
@@ -230,43 +229,59 @@ impl Content {
         }
     }
 
-    /// Puts words, and a number in decimal digits.
-    pub fn put_number(&mut self, words: &str, number: usize) {
-        let put = write!(self.pending, "{words}{number}");
+    /// Puts a number in decimal digits.
+    pub fn put_number(&mut self, number: usize) {
+        let put = write!(self.pending, "{number}");
+        if put.is_err() {
+            self.lose();
+        }
+    }
+
+    /// Puts a command of a path, and the coordinate that it goes to.
+    pub fn put_command(&mut self, command: char, to: usize) {
+        let put = write!(self.pending, "{command}{to}");
         if put.is_err() {
             self.lose();
         }
     }
 
     /// Puts a command of a path, and the point that it goes to.
-    pub fn put_point(&mut self, command: &str, x: usize, y: usize) {
-        self.put_number(command, x);
-        self.put_number(" ", y);
+    pub fn put_point(&mut self, command: char, x: usize, y: usize) {
+        self.put_command(command, x);
+        self.put_command(' ', y);
     }
 
     /// Appends a path of what has been put.
-    pub fn path(&mut self, class: &str, color: &str) {
+    pub fn path(&mut self, class: Class, color: Color) {
         let data = self.take_pending();
         self.path_of(class, color, data.as_str());
     }
 
     /// Appends a label of what has been put, at this point.
-    pub fn text(&mut self, class: &str, color: &str, x: usize, y: usize) {
+    pub fn text(&mut self, class: Class, color: Color, x: usize, y: usize) {
         let words = self.take_pending();
         self.label(class, color, x, y, words.as_str().as_bytes());
     }
 
     /// Appends a path from a point, by these commands.
-    pub fn shape(&mut self, class: &str, color: &str, x: usize, y: usize, commands: &str) {
-        self.put_point("M", x, y);
+    pub fn shape(&mut self, class: Class, color: Color, x: usize, y: usize, commands: &str) {
+        self.put_point('M', x, y);
         self.put(commands);
         self.path(class, color);
     }
 
     /// Appends a line from a point: a command, `H` or `V`, to this coordinate.
-    pub fn line(&mut self, class: &str, color: &str, x: usize, y: usize, command: &str, to: usize) {
-        self.put_point("M", x, y);
-        self.put_number(command, to);
+    pub fn line(
+        &mut self,
+        class: Class,
+        color: Color,
+        x: usize,
+        y: usize,
+        command: char,
+        to: usize,
+    ) {
+        self.put_point('M', x, y);
+        self.put_command(command, to);
         self.path(class, color);
     }
 
