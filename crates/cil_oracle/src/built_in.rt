@@ -1,9 +1,10 @@
 //! Calls of built-in members: one event, and no frame (ECMA-335 Partition IV; Cilvm.Thread is this profile's).
 
-use crate::classes::{Classes, Found, name_of};
+use crate::classes::{Found, name_of};
 use crate::effects::{Done, Effect, Halt};
 use crate::frames::Frame;
 use crate::heap::Monitor;
+use crate::names::OracleNames;
 use crate::state::State;
 use crate::values::Value;
 use cil_model::limits::MOST_THREADS;
@@ -20,16 +21,16 @@ pub enum Action {
     Join,
 }
 
-/// What a method does; none where it has code of its own.
-pub fn action_of(classes: Classes<'_>, found: Found<'_>) -> Option<Action> {
-    let class = classes.built_in_name(found.class())?;
-    match (class, name_of(found.method)) {
-        ("System.Object" | "Cilvm.Thread", ".ctor") => Some(Action::Construct),
-        ("System.Console", "WriteLine") => Some(Action::Write),
-        ("System.Threading.Monitor", "Enter") => Some(Action::Enter),
-        ("System.Threading.Monitor", "Exit") => Some(Action::Exit),
-        ("Cilvm.Thread", "Start") => Some(Action::Start),
-        ("Cilvm.Thread", "Join") => Some(Action::Join),
+/// What a method does; none where it has code of its own. Built-in methods of one name do the same.
+pub fn action_of(names: &OracleNames<'_>, found: Found<'_>) -> Option<Action> {
+    names.built_in_name(found.class())?;
+    match name_of(found.method) {
+        ".ctor" => Some(Action::Construct),
+        "WriteLine" => Some(Action::Write),
+        "Enter" => Some(Action::Enter),
+        "Exit" => Some(Action::Exit),
+        "Start" => Some(Action::Start),
+        "Join" => Some(Action::Join),
         _ => None,
     }
 }
@@ -96,7 +97,7 @@ impl<'a> State<'a> {
 
     /// A new thread, at the beginning of the object's `Run` with its whole budget.
     fn start(&mut self, name: usize) -> Result<(), Halt> {
-        let run = self.classes.run_method(self.heap.class_of(name)?)?;
+        let run = self.names.run_method(self.heap.class_of(name)?)?;
         if self.heap.object(name)?.thread.is_some() {
             return Err(Halt::Raises(Fault::ThreadState));
         }

@@ -21,8 +21,8 @@ impl<'a> State<'a> {
         reference: &MethodReference,
     ) -> Done {
         let parameters = reference.signature.parameters.as_slice();
-        let found = self.classes.names.find_method(is_instance, reference);
-        let callee = self.classes.method_at(found)?;
+        let found = self.names.tables.find_method(is_instance, reference);
+        let callee = self.names.method_at(found)?;
         frame.check_operands(parameters)?;
         let count = parameters.len().saturating_add(usize::from(is_instance));
         self.run_method(frame, callee, count)
@@ -37,13 +37,13 @@ impl<'a> State<'a> {
         signature: &Signature,
     ) -> Done {
         let parameters = signature.parameters.as_slice();
-        let found = self.classes.names.find_virtual(owner, name, signature);
-        let called = self.classes.method_at(found)?;
+        let found = self.names.tables.find_virtual(owner, name, signature);
+        let called = self.names.method_at(found)?;
         frame.check_operands(parameters)?;
         let this = frame.below_top(parameters.len())?;
         let object = this.not_null(Fault::NullReference)?;
         let callee = if is_virtual(&called.method.kind) {
-            self.classes.target(self.heap.class_of(object)?, called)?
+            self.names.target(self.heap.class_of(object)?, called)?
         } else {
             called
         };
@@ -52,7 +52,7 @@ impl<'a> State<'a> {
 
     /// Runs a method on this number of operands: an action of its own, or a frame within the depth.
     fn run_method(&mut self, frame: &mut Frame<'a>, found: Found<'a>, count: usize) -> Done {
-        if let Some(action) = action_of(self.classes, found) {
+        if let Some(action) = action_of(self.names, found) {
             return self.act(frame, action);
         }
         self.transition.check_depth(self.limits)?;
@@ -68,10 +68,10 @@ impl<'a> State<'a> {
         class: &ClassName,
         parameters: &[DeclaredType],
     ) -> Done {
-        let found = self.classes.names.find_constructor(class, parameters);
-        let constructor = self.classes.method_at(found)?;
+        let found = self.names.tables.find_constructor(class, parameters);
+        let constructor = self.names.method_at(found)?;
         frame.check_operands(parameters)?;
-        if action_of(self.classes, constructor).is_some() {
+        if action_of(self.names, constructor).is_some() {
             let object = self.new_instance(constructor.class())?;
             return frame.next_with(Value::Reference(object));
         }

@@ -10,7 +10,6 @@ use name_tables::classes::DeclaredClass;
 use name_tables::ids::{ClassId, FieldId, MethodId};
 use name_tables::keys::{ClassKey, MethodKey};
 use name_tables::kinds::{is_new_slot_method, is_virtual};
-use name_tables::lookups::NameTables;
 
 /// A method, and the number of the class that declares it.
 #[derive(Clone, Copy)]
@@ -34,22 +33,16 @@ impl<'a> Found<'a> {
     }
 }
 
-/// The classes of a program, by id.
-#[derive(Clone, Copy)]
-pub struct Classes<'a> {
-    pub names: &'a NameTables<'a>,
-    pub chains: &'a OracleNames<'a>,
-}
-
-impl<'a> Classes<'a> {
+/// Classes, by id.
+impl<'a> OracleNames<'a> {
     /// What a class declares.
     pub fn source_class(&self, class: ClassId) -> Option<&'a DeclaredClass<'a>> {
-        self.names.classes.class(class)
+        self.tables.classes.class(class)
     }
 
     /// The field that a reference finds.
     pub fn field(&self, is_static: bool, field: &FieldReference) -> Result<FieldId, Halt> {
-        self.names.find_field(is_static, field).ok_or(Halt::Sticks)
+        self.tables.find_field(is_static, field).ok_or(Halt::Sticks)
     }
 
     /// The method of the id that a look-up found.
@@ -60,11 +53,6 @@ impl<'a> Classes<'a> {
             None => Err(Halt::Sticks),
             Some(method) => Ok(Found::new(class, method)),
         }
-    }
-
-    /// The class, its base, and so on (ECMA-335 I.8.9.9).
-    pub fn chain(&self, class: ClassId) -> &'a [ClassId] {
-        self.chains.chain(class)
     }
 
     /// The name of a built-in class; none where it is a class of the source.
@@ -107,7 +95,7 @@ pub fn name_of(method: &Method) -> &str {
 }
 
 /// Types.
-impl<'a> Classes<'a> {
+impl<'a> OracleNames<'a> {
     /// A type that occurs in the tree.
     pub fn type_named(&self, t: &DeclaredType) -> Result<OracleType, Halt> {
         let element = match &t.element {
@@ -116,7 +104,7 @@ impl<'a> Classes<'a> {
             Element::Object => OracleElement::Object,
             Element::String => OracleElement::String,
             Element::Class(name) => {
-                let class = self.names.classes.id(ClassKey::of(name));
+                let class = self.tables.classes.id(ClassKey::of(name));
                 OracleElement::Class(class.ok_or(Halt::Sticks)?.number())
             }
         };
@@ -146,7 +134,7 @@ impl<'a> Classes<'a> {
     /// Whether one of the names is the class's.
     fn is_among(&self, names: &[ClassName], class: ClassId) -> bool {
         for name in names {
-            if self.names.classes.id(ClassKey::of(name)) == Some(class) {
+            if self.tables.classes.id(ClassKey::of(name)) == Some(class) {
                 return true;
             }
         }
@@ -189,12 +177,12 @@ impl<'a> Classes<'a> {
 }
 
 /// Which method a virtual call runs. A slot is known by the class that introduced it.
-impl<'a> Classes<'a> {
+impl<'a> OracleNames<'a> {
     /// The slot that the nearest method of this name and signature along a chain fills.
     fn slot_along(&self, key: MethodKey<'a>, chain: &[ClassId]) -> Option<ClassId> {
         let mut slot = None;
         for class in chain.iter().rev() {
-            slot = match self.names.classes.method(*class, key) {
+            slot = match self.tables.classes.method(*class, key) {
                 None => slot,
                 Some(method) if !is_virtual(&method.kind) => None,
                 Some(method) if is_new_slot_method(&method.kind) => Some(*class),
@@ -214,7 +202,7 @@ impl<'a> Classes<'a> {
         let slot = self.slot_along(key, self.chain(owner))?;
         let chain = self.chain(class);
         for start in 0..chain.len() {
-            let Some(method) = self.names.classes.method(chain[start], key) else {
+            let Some(method) = self.tables.classes.method(chain[start], key) else {
                 continue;
             };
             if self.slot_along(key, &chain[start..]) == Some(slot) {
@@ -227,7 +215,7 @@ impl<'a> Classes<'a> {
     /// The nearest class of a chain with a virtual method of this name and signature.
     fn nearest_virtual(&self, key: MethodKey<'a>, chain: &[ClassId]) -> Option<ClassId> {
         for class in chain {
-            if let Some(method) = self.names.classes.method(*class, key) {
+            if let Some(method) = self.tables.classes.method(*class, key) {
                 if is_virtual(&method.kind) {
                     return Some(*class);
                 }

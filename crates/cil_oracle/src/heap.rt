@@ -1,7 +1,7 @@
 //! Objects, which have names and never move (ECMA-335 I.12.1; that they do not move is this profile's).
 
-use crate::classes::Classes;
 use crate::effects::Halt;
+use crate::names::OracleNames;
 use crate::values::{OracleElement, OracleType, Value};
 use cil_model::instructions::ElementKind;
 use cil_model::reports::Fault;
@@ -157,21 +157,26 @@ impl<'a> Heap<'a> {
         }
     }
 
-    fn type_of(&self, classes: Classes<'a>, name: usize) -> Result<OracleType, Halt> {
+    fn type_of(&self, names: &OracleNames<'_>, name: usize) -> Result<OracleType, Halt> {
         Ok(match &self.object(name)?.contents {
-            Contents::Instance(class, _) => classes.type_of_class(*class),
+            Contents::Instance(class, _) => names.type_of_class(*class),
             Contents::Array(element, _) => element.array(),
             Contents::Literal(_) => OracleType::plain(OracleElement::String),
         })
     }
 
     /// Whether the object of a reference is of the type; null is of every type.
-    pub fn fits(&self, classes: Classes<'a>, v: Value, required: OracleType) -> Result<bool, Halt> {
+    pub fn fits(
+        &self,
+        names: &OracleNames<'_>,
+        v: Value,
+        required: OracleType,
+    ) -> Result<bool, Halt> {
         match v {
             Value::Null => Ok(true),
             Value::Reference(name) => {
-                let own = self.type_of(classes, name)?;
-                Ok(classes.is_assignable(own, required))
+                let own = self.type_of(names, name)?;
+                Ok(names.is_assignable(own, required))
             }
             _ => Err(Halt::Sticks),
         }

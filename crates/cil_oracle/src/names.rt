@@ -22,7 +22,7 @@ impl<'a> OracleNames<'a> {
         Ok(OracleNames { tables, chains })
     }
 
-    /// The chain of a class; empty where there is no such class.
+    /// The class, its base, and so on (ECMA-335 I.8.9.9). Empty where there is no such class.
     pub fn chain(&self, class: ClassId) -> &[ClassId] {
         match self.chains.get(class.number()) {
             None => &[],

@@ -15,7 +15,7 @@ impl<'a> State<'a> {
     /// `ldfld` (ECMA-335 III.4.10).
     pub fn load_field(&mut self, frame: &mut Frame<'a>, reference: &FieldReference) -> Done {
         let name = frame.pop()?.not_null(Fault::NullReference)?;
-        let field = self.classes.field(false, reference)?;
+        let field = self.names.field(false, reference)?;
         match &self.heap.object(name)?.contents {
             Contents::Instance(_, fields) => frame.next_with(field_in(fields.as_slice(), field)?),
             _ => Err(Halt::Sticks),
@@ -26,7 +26,7 @@ impl<'a> State<'a> {
     pub fn store_field(&mut self, frame: &mut Frame<'a>, reference: &FieldReference) -> Done {
         let value = frame.pop()?;
         let name = frame.pop()?.not_null(Fault::NullReference)?;
-        let field = self.classes.field(false, reference)?;
+        let field = self.names.field(false, reference)?;
         match &mut self.heap.object_mut(name)?.contents {
             Contents::Instance(_, fields) => {
                 set_field_in(fields.as_mut_slice(), field, value)?;
@@ -38,14 +38,14 @@ impl<'a> State<'a> {
 
     /// `ldsfld` (ECMA-335 III.4.14).
     pub fn load_static(&mut self, frame: &mut Frame<'a>, reference: &FieldReference) -> Done {
-        let field = self.classes.field(true, reference)?;
+        let field = self.names.field(true, reference)?;
         frame.next_with(field_in(self.statics.as_slice(), field)?)
     }
 
     /// `stsfld` (ECMA-335 III.4.30).
     pub fn store_static(&mut self, frame: &mut Frame<'a>, reference: &FieldReference) -> Done {
         let value = frame.pop()?;
-        let field = self.classes.field(true, reference)?;
+        let field = self.names.field(true, reference)?;
         set_field_in(self.statics.as_mut_slice(), field, value)?;
         Ok(Effect::Next)
     }
@@ -57,7 +57,7 @@ impl<'a> State<'a> {
     pub fn new_instance(&mut self, class: ClassId) -> Result<usize, Halt> {
         self.transition.check_birth()?;
         let mut fields = Vec::new(self.alloc);
-        for base in self.classes.chain(class) {
+        for base in self.names.chain(class) {
             self.add_fields(&mut fields, *base, false)?;
         }
         self.heap.give_birth(Contents::Instance(class, fields))
@@ -66,7 +66,7 @@ impl<'a> State<'a> {
     /// `newarr` (ECMA-335 III.4.20).
     pub fn new_array(&mut self, frame: &mut Frame<'a>, t: &DeclaredType) -> Done {
         let length = frame.pop()?.as_index()?;
-        let element = self.classes.type_named(t)?;
+        let element = self.names.type_named(t)?;
         let Ok(length) = usize::try_from(length) else {
             return Err(Halt::Raises(Fault::Overflow));
         };
@@ -108,7 +108,7 @@ impl<'a> State<'a> {
         let name = frame.pop()?.not_null(Fault::NullReference)?;
         let index = self.heap.element_index(name, index, kind)?;
         let (element, _) = self.heap.array(name)?;
-        if element.is_reference() && !self.heap.fits(self.classes, value, element)? {
+        if element.is_reference() && !self.heap.fits(self.names, value, element)? {
             return Err(Halt::Raises(Fault::ArrayTypeMismatch));
         }
         match &mut self.heap.object_mut(name)?.contents {
@@ -126,8 +126,8 @@ impl<'a> State<'a> {
     /// `castclass` (ECMA-335 III.4.3).
     pub fn cast_class(&mut self, frame: &mut Frame<'a>, t: &DeclaredType) -> Done {
         let value = frame.top()?;
-        let required = self.classes.type_named(t)?;
-        if self.heap.fits(self.classes, value, required)? {
+        let required = self.names.type_named(t)?;
+        if self.heap.fits(self.names, value, required)? {
             Ok(Effect::Next)
         } else {
             Err(Halt::Raises(Fault::InvalidCast))
@@ -137,8 +137,8 @@ impl<'a> State<'a> {
     /// `isinst` (ECMA-335 III.4.6).
     pub fn is_instance(&mut self, frame: &mut Frame<'a>, t: &DeclaredType) -> Done {
         let value = frame.pop()?;
-        let required = self.classes.type_named(t)?;
-        let fits = self.heap.fits(self.classes, value, required)?;
+        let required = self.names.type_named(t)?;
+        let fits = self.heap.fits(self.names, value, required)?;
         frame.next_with(if fits { value } else { Value::Null })
     }
 }

@@ -1,6 +1,6 @@
 //! The state of a run, with the program that it is of.
 
-use crate::classes::{Classes, Found};
+use crate::classes::Found;
 use crate::effects::Halt;
 use crate::frames::Frame;
 use crate::heap::{FieldValue, Heap};
@@ -52,7 +52,7 @@ impl OracleStep {
 /// All that a run changes. `callee` is the frame of a method that an instruction has just called.
 pub struct State<'a> {
     pub alloc: Global,
-    pub classes: Classes<'a>,
+    pub names: &'a OracleNames<'a>,
     pub limits: Limits,
     pub heap: Heap<'a>,
     pub statics: Vec<FieldValue>,
@@ -67,7 +67,7 @@ impl Drop for State<'_> {
     fn drop(self) {
         let State {
             alloc: _alloc,
-            classes: _classes,
+            names: _names,
             limits: _limits,
             heap: _heap,
             statics: _statics,
@@ -84,10 +84,7 @@ impl<'a> State<'a> {
     pub fn new(alloc: Global, names: &'a OracleNames<'a>, limits: Limits) -> Self {
         State {
             alloc,
-            classes: Classes {
-                names: names.tables,
-                chains: names,
-            },
+            names,
             limits,
             heap: Heap::new(alloc),
             statics: Vec::new(alloc),
@@ -105,7 +102,7 @@ impl<'a> State<'a> {
     /// Makes the static fields of all classes (ECMA-335 II.16), and the thread that runs the entry point.
     pub fn open(&mut self, entry: Found<'a>) -> Result<(), Halt> {
         let mut statics = Vec::new(self.alloc);
-        for class in 0..self.classes.names.classes.all().len() {
+        for class in 0..self.names.tables.classes.all().len() {
             self.add_fields(&mut statics, ClassId::new(class), true)?;
         }
         self.statics = statics;
@@ -120,7 +117,7 @@ impl<'a> State<'a> {
         class: ClassId,
         is_static: bool,
     ) -> Result<(), Halt> {
-        let Some(declared) = self.classes.source_class(class) else {
+        let Some(declared) = self.names.source_class(class) else {
             return Ok(());
         };
         for (index, field) in declared.fields.iter().enumerate() {
