@@ -46,7 +46,7 @@ fn is_jump(operation: &Operation) -> bool {
 
 impl Scene<'_> {
     /// The number of values that an instruction pops.
-    pub fn pops(self, operation: &Operation) -> usize {
+    pub fn pops(&self, operation: &Operation) -> usize {
         match self.declared_type(operation) {
             None => count_popped(operation),
             Some((None, others)) => others.len(),
@@ -55,7 +55,7 @@ impl Scene<'_> {
     }
 
     /// Whether a method returns a value.
-    fn returns(self, method: MethodId) -> bool {
+    fn returns(&self, method: MethodId) -> bool {
         match self.program.method(method) {
             None => false,
             Some(method) => method.return_type.is_some(),
@@ -63,7 +63,7 @@ impl Scene<'_> {
     }
 
     /// The number of values that an instruction pushes.
-    fn pushes(self, operation: &Operation) -> usize {
+    fn pushes(&self, operation: &Operation) -> usize {
         match operation {
             Operation::Call { method, .. } | Operation::CallVirtual { method, .. } => {
                 count_returned(self.returns(*method))
@@ -85,7 +85,7 @@ impl Scene<'_> {
 
     /// The index of the instruction that pushed a value of the stack before another instruction, by the number of values above it. It is
     /// looked for along the instructions before that one; None where control does not come from them.
-    pub fn pusher(self, instruction: usize, above: usize) -> Option<usize>
+    pub fn pusher(&self, instruction: usize, above: usize) -> Option<usize>
         ensures { IfSome result (λ index. index < instruction) }
     {
         let mut depth = above;
@@ -105,7 +105,7 @@ impl Scene<'_> {
     }
 
     /// Whether the instruction before another one calls a method that returns nothing.
-    pub fn is_after_void_call(self, instruction: usize) -> bool {
+    pub fn is_after_void_call(&self, instruction: usize) -> bool {
         let before = match instruction.checked_sub(1) {
             None => None,
             Some(index) => self.operations.get(index),

@@ -31,7 +31,7 @@ pub(crate) struct Scene<'a> {
 
 /// The operands that an instruction of a method takes, the topmost last.
 #[derive(Clone, Copy)]
-pub(crate) struct Expected<'a>(pub Scene<'a>, pub &'a Operation);
+pub(crate) struct Expected<'a>(pub &'a Scene<'a>, pub &'a Operation);
 
 /// Types, with commas between them, and one more before them; `nothing` where there are none.
 fn write_types<W: fmt::Write>(
@@ -59,8 +59,8 @@ fn write_types<W: fmt::Write>(
 
 impl<'a> Scene<'a> {
     /// How many arguments the method has.
-    pub fn count_arguments(self) -> usize
-        ensures { length self.entry.parameters.now ≤ result }
+    pub fn count_arguments(&self) -> usize
+        ensures { length self.now.parameters.now ≤ result }
     {
         let parameters = self.parameters.len();
         match self.this {
@@ -70,7 +70,7 @@ impl<'a> Scene<'a> {
     }
 
     /// The type of an argument, by the number that stands in the text.
-    fn argument(self, number: i64) -> Option<ResolvedType> {
+    fn argument(&self, number: i64) -> Option<ResolvedType> {
         let index = usize::try_from(number).ok()?;
         match (self.this, index) {
             (None, _) => self.parameters.get(index).copied(),
@@ -80,19 +80,19 @@ impl<'a> Scene<'a> {
     }
 
     /// The type of a local, by the number that stands in the text.
-    fn local(self, number: i64) -> Option<ResolvedType> {
+    fn local(&self, number: i64) -> Option<ResolvedType> {
         let index = usize::try_from(number).ok()?;
         self.locals.get(index).copied()
     }
 
-    fn parameters_of(self, method: MethodId) -> &'a [ResolvedType] {
+    fn parameters_of(&self, method: MethodId) -> &'a [ResolvedType] {
         match self.program.method(method) {
             None => &[],
             Some(method) => method.parameters.as_slice(),
         }
     }
 
-    fn field(self, field: FieldId) -> &'a [ResolvedType] {
+    fn field(&self, field: FieldId) -> &'a [ResolvedType] {
         match self.program.field(field) {
             None => &[],
             Some(field) => from_ref(&field.field_type),
@@ -101,7 +101,7 @@ impl<'a> Scene<'a> {
 
     /// The operands of an instruction that are declared types, the first by itself; None where the sentence has them already.
     pub fn declared_type(
-        self,
+        &self,
         operation: &Operation,
     ) -> Option<(Option<ResolvedType>, &'a [ResolvedType])> {
         match operation {

@@ -29,7 +29,7 @@ impl<'a> SourceMethod<'a> {
     }
 
     /// Its name, as a source writes it.
-    pub fn name(self) -> &'a str {
+    pub fn name(&self) -> &'a str {
         match &self.method.name {
             MethodName::Constructor => ".ctor",
             MethodName::Named(name) => name.as_str(),
@@ -37,7 +37,7 @@ impl<'a> SourceMethod<'a> {
     }
 
     /// The offset of the name of an instruction, and of that of the method where it has no such instruction.
-    pub fn offset_of(self, instruction: usize, instructions: usize) -> Option<usize> {
+    pub fn offset_of(&self, instruction: usize, instructions: usize) -> Option<usize> {
         let text = self.text?;
         if instruction < instructions {
             return text.instruction(instruction);
@@ -46,7 +46,7 @@ impl<'a> SourceMethod<'a> {
     }
 
     /// The line, from 1, of what `offset_of` finds.
-    pub fn line_of(self, instruction: usize, instructions: usize) -> Option<usize> {
+    pub fn line_of(&self, instruction: usize, instructions: usize) -> Option<usize> {
         let offset = self.offset_of(instruction, instructions)?;
         Some(self.text?.line_of(offset))
     }

@@ -74,7 +74,7 @@ fn count_types(
 
 impl Scene<'_> {
     /// Whether the operands of an instruction are on the stack, and in another order.
-    pub fn is_permuted(self, operation: &Operation, stack: &[StackEntry]) -> bool {
+    pub fn is_permuted(&self, operation: &Operation, stack: &[StackEntry]) -> bool {
         let Some((first, others)) = self.declared_type(operation) else {
             return false;
         };
@@ -95,7 +95,7 @@ impl Scene<'_> {
     }
 
     /// Whether a class extends another one.
-    fn extends(self, class: usize, base: usize) -> bool {
+    fn extends(&self, class: usize, base: usize) -> bool {
         let classes = self.program.classes();
         let mut next = Some(class);
         for _ in 0..classes.len() {
@@ -113,7 +113,7 @@ impl Scene<'_> {
         false
     }
 
-    fn is_interface(self, class: usize) -> bool {
+    fn is_interface(&self, class: usize) -> bool {
         match self.program.classes().get(class) {
             None => false,
             Some(declared) => declared.is_interface,
@@ -121,7 +121,7 @@ impl Scene<'_> {
     }
 
     /// Whether a value of the first type may be an object of the second one, so that a cast helps.
-    pub fn may_cast(self, found: ResolvedType, expected: ResolvedType) -> bool {
+    pub fn may_cast(&self, found: ResolvedType, expected: ResolvedType) -> bool {
         if found.brackets > 0 {
             return false;
         }
@@ -135,7 +135,7 @@ impl Scene<'_> {
     }
 
     /// The type of an operand of an instruction, by its index from that pushed first.
-    fn expected_at(self, operation: &Operation, index: usize) -> Option<ResolvedType> {
+    fn expected_at(&self, operation: &Operation, index: usize) -> Option<ResolvedType> {
         match self.declared_type(operation)? {
             (None, others) => others.get(index).copied(),
             (first, others) => match index.checked_sub(1) {
@@ -147,7 +147,7 @@ impl Scene<'_> {
 
     /// The number of values above the operand of a type where another one is expected.
     pub fn above_operand(
-        self,
+        &self,
         operation: &Operation,
         stack: &[StackEntry],
         found: StackEntry,

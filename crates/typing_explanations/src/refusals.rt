@@ -14,7 +14,7 @@ use verifier::merging::StackMismatch;
 /// A reason, at an instruction with this name in the source.
 #[derive(Clone, Copy)]
 pub(crate) struct Refusal<'a> {
-    pub scene: Scene<'a>,
+    pub scene: &'a Scene<'a>,
     pub reason: Reason,
     pub operation: Option<&'a Operation>,
     pub name: &'a str,

@@ -20,7 +20,7 @@ use verifier::failures::{FailurePoint, IncomingStack};
 fn scene_of<'a>(
     program: &'a Program,
     names: ClassNames<'a>,
-    found: SourceMethod,
+    found: &SourceMethod<'_>,
 ) -> Option<Scene<'a>> {
     let class = ClassId::new(found.number.class.checked_add(names.built_in.len())?);
     let index = found.number.index;
@@ -49,8 +49,8 @@ const MOST_LINES: usize = 8;
 /// The lines of the instructions that pushed the topmost values of the stack before an instruction, the top first.
 fn lines_of(
     alloc: Global,
-    found: SourceMethod,
-    scene: Scene,
+    found: &SourceMethod<'_>,
+    scene: &Scene<'_>,
     instruction: usize,
     height: usize,
 ) -> Result<Vec<Option<usize>>, NoMemory> {
@@ -62,15 +62,19 @@ fn lines_of(
 }
 
 /// The line of an instruction, from 1.
-fn line_of(found: SourceMethod, scene: Scene, instruction: Option<usize>) -> Option<usize> {
+fn line_of(
+    found: &SourceMethod<'_>,
+    scene: &Scene<'_>,
+    instruction: Option<usize>,
+) -> Option<usize> {
     found.line_of(instruction?, scene.operations.len())
 }
 
 /// The method, the instruction by its index, and the stacks there.
 #[derive(Clone, Copy)]
 struct Stacks<'a> {
-    found: SourceMethod<'a>,
-    refusal: Refusal<'a>,
+    found: &'a SourceMethod<'a>,
+    refusal: &'a Refusal<'a>,
     failure: &'a FailurePoint,
     /// The lines of the values before the instruction, and of those that control brings to it.
     lines: &'a [Option<usize>],
@@ -125,8 +129,8 @@ impl Stacks<'_> {
 /// The lines of the values that control brings to an instruction, the top first.
 fn incoming_lines(
     alloc: Global,
-    found: SourceMethod,
-    scene: Scene,
+    found: &SourceMethod<'_>,
+    scene: &Scene<'_>,
     failure: &FailurePoint,
 ) -> Result<Vec<Option<usize>>, NoMemory> {
     match &failure.incoming {
@@ -143,8 +147,8 @@ fn incoming_lines(
 fn push_stacks<'a>(
     alloc: Global,
     message: &mut String,
-    found: SourceMethod<'a>,
-    refusal: Refusal<'a>,
+    found: &'a SourceMethod<'a>,
+    refusal: &'a Refusal<'a>,
     failure: &'a FailurePoint,
     height: Option<usize>,
 ) -> Result<(), NoMemory> {
@@ -154,8 +158,8 @@ fn push_stacks<'a>(
     let lines = lines_of(alloc, found, scene, instruction, stack.len())?;
     let incoming = incoming_lines(alloc, found, scene, failure)?;
     let stacks = Stacks {
-        found,
-        refusal,
+        found: &*found,
+        refusal: &*refusal,
         failure,
         lines: lines.as_slice(),
         incoming: incoming.as_slice(),
@@ -181,8 +185,8 @@ fn push_help(message: &mut String, remedy: Remedy) -> Result<(), NoMemory> {
 fn explain_instruction(
     alloc: Global,
     named: Named,
-    found: SourceMethod,
-    scene: Scene,
+    found: &SourceMethod<'_>,
+    scene: &Scene<'_>,
     failure: &FailurePoint,
     height: Option<usize>,
 ) -> Result<String, NoMemory> {
@@ -196,12 +200,16 @@ fn explain_instruction(
     };
     let sentence = refusal.to_string(alloc)?;
     let mut message = named.message(alloc, offset, sentence.as_str())?;
-    push_stacks(alloc, &mut message, found, refusal, failure, height)?;
+    push_stacks(alloc, &mut message, found, &refusal, failure, height)?;
     Ok(message)
 }
 
 /// The explanation of a method whose code has no instruction.
-fn explain_empty(alloc: Global, named: Named, found: SourceMethod) -> Result<String, NoMemory> {
+fn explain_empty(
+    alloc: Global,
+    named: Named,
+    found: &SourceMethod<'_>,
+) -> Result<String, NoMemory> {
     let class = found.class_name;
     let method = found.name();
     let offset = found.offset_of(0, 0);
@@ -214,8 +222,8 @@ fn explain_empty(alloc: Global, named: Named, found: SourceMethod) -> Result<Str
 fn explain_method(
     alloc: Global,
     named: Named,
-    found: SourceMethod,
-    scene: Scene,
+    found: &SourceMethod<'_>,
+    scene: &Scene<'_>,
     failure: &FailurePoint,
     height: Option<usize>,
 ) -> Result<String, NoMemory> {
@@ -247,10 +255,10 @@ pub fn explain_typing(
         built_in: table.as_slice(),
         sources,
     };
-    match scene_of(program, names, found) {
+    match scene_of(program, names, &found) {
         None => Ok(None),
         Some(scene) => {
-            let text = explain_method(alloc, named, found, scene, failure, height)?;
+            let text = explain_method(alloc, named, &found, &scene, failure, height)?;
             Ok(Some(text))
         }
     }
