@@ -6,7 +6,7 @@ use driver::{Outputs, WriterOut, drive};
 use run_api_tests::{Call, LIMITS, SUM, calls, run_calls};
 use std::alloc::Global;
 use std::io;
-use std::io::Cursor;
+use std::io::{Cursor, Write};
 use std::sync::Wait;
 use std::thread::Threads;
 use std::time::Clock;
@@ -49,40 +49,40 @@ fn write_report(rt: &HostRuntime, name: &str, is_as_expected: bool) -> io::Resul
     Ok(1)
 }
 
-/// The two outputs of a command.
-fn outputs_of<W, E>(outputs: Outputs<W, E>) -> (W, E) {
-    let Outputs {
-        out,
-        err,
-        files: _files,
-        ended: _,
-    } = outputs;
-    (out, err)
+/// Carries out a command on a source with a schedule, on two writers, and returns its status.
+fn status_of<W: Write + Drop, E: Write + Drop>(
+    threads: &(impl Threads + Wait + Clock + Sync),
+    alloc: Global,
+    order: &Order<'_>,
+    source: &[u8],
+    out: W,
+    err: E,
+) -> u8 {
+    let mut outputs = Outputs::new(WriterOut::new(out), WriterOut::new(err));
+    drive(threads, alloc, order, source, b"s0*3", &mut outputs)
 }
+
+/// A trace by the schedule of a file.
+const TRACE: Order<'static> = Order::Trace {
+    file: "",
+    schedule: "",
+    limits: NO_LIMITS,
+    expected: None,
+    explain: false,
+};
 
 /// Whether the status is 5 where an output takes less than is to be written: of a trace the first line, and of a refusal nothing.
 fn reports_of_outputs(threads: &(impl Threads + Wait + Clock + Sync), alloc: Global) -> bool {
-    let trace = Order::Trace {
-        file: "",
-        schedule: "",
-        limits: NO_LIMITS,
-        expected: None,
-        explain: false,
-    };
-    let page = WriterOut::new(Cursor::new([0; 52]));
-    let mut outputs = Outputs::new(page, WriterOut::new(Vec::new(alloc)));
-    let (source, schedule) = (SUM.as_bytes(), b"s0*3");
-    let traced = drive(threads, alloc, &trace, source, schedule, &mut outputs);
-    let none = WriterOut::new(Cursor::new([0; 0]));
-    let mut failing = Outputs::new(WriterOut::new(Vec::new(alloc)), none);
-    let refused = drive(threads, alloc, &trace, b"{", &[], &mut failing);
-    let (page, err) = outputs_of(outputs);
+    let mut page = [0; 52];
+    let mut err = Vec::new(alloc);
+    let out = Cursor::new(page.as_mut_slice());
+    let traced = status_of(threads, alloc, &TRACE, SUM.as_bytes(), out, &mut err);
+    let none = Cursor::new([0; 0]);
+    let refused = status_of(threads, alloc, &TRACE, b"{", Vec::new(alloc), none);
     traced == 5
         && refused == 5
-        && err.into_inner().as_slice() == b"device\n".as_slice()
-        && page.into_inner().get_ref().as_slice().starts_with(
-            b"1\ts0\tran\tP::Main+0  ldc.i4 2\t1\t1\t0\t0\tidle\tidle\n",
-        )
+        && err.as_slice() == b"device\n".as_slice()
+        && page.as_slice().starts_with(b"1\ts0\tran\tP::Main+0  ldc.i4 2\t1\t1\t0\t0\tidle\tidle\n")
 }
 
 /// Whether the status is 5 where an output takes less than a picture has, and a beginning of it is left, and where it takes it and the
@@ -96,22 +96,17 @@ fn leaves_a_beginning(threads: &(impl Threads + Wait + Clock + Sync), alloc: Glo
         expected: None,
         explain: false,
     };
-    let page = WriterOut::new(Cursor::new([0; 60]));
-    let mut outputs = Outputs::new(page, WriterOut::new(Vec::new(alloc)));
-    let (source, schedule) = (SUM.as_bytes(), b"s0*3");
-    let cut = drive(threads, alloc, &picture, source, schedule, &mut outputs);
-    let none = WriterOut::new(Cursor::new([0; 0]));
-    let mut failing = Outputs::new(WriterOut::new(Vec::new(alloc)), none);
-    let silent = drive(threads, alloc, &picture, source, schedule, &mut failing);
-    let (page, err) = outputs_of(outputs);
-    let (whole, _none) = outputs_of(failing);
-    let whole = whole.into_inner();
+    let mut page = [0; 60];
+    let mut err = Vec::new(alloc);
+    let out = Cursor::new(page.as_mut_slice());
+    let cut = status_of(threads, alloc, &picture, SUM.as_bytes(), out, &mut err);
+    let mut whole = Vec::new(alloc);
+    let none = Cursor::new([0; 0]);
+    let silent = status_of(threads, alloc, &picture, SUM.as_bytes(), &mut whole, none);
     cut == 5
         && silent == 5
-        && err.into_inner().as_slice() == b"device\n".as_slice()
-        && whole
-            .as_slice()
-            .starts_with(page.into_inner().get_ref().as_slice())
+        && err.as_slice() == b"device\n".as_slice()
+        && whole.as_slice().starts_with(page.as_slice())
         && whole.as_slice().ends_with(b"</svg>\n")
 }
 
@@ -127,11 +122,9 @@ fn ends_at_a_cut_console(threads: &(impl Threads + Wait + Clock + Sync), alloc: 
         explain: false,
         stats: false,
     });
-    let page = WriterOut::new(Cursor::new([0; 1]));
-    let mut outputs = Outputs::new(page, WriterOut::new(Vec::new(alloc)));
-    let status = drive(threads, alloc, &run, SUM.as_bytes(), &[], &mut outputs);
-    let (page, err) = outputs_of(outputs);
-    status == 5
-        && page.into_inner().get_ref() == b"5"
-        && err.into_inner().as_slice() == b"device\n".as_slice()
+    let mut page = [0; 1];
+    let mut err = Vec::new(alloc);
+    let out = Cursor::new(page.as_mut_slice());
+    let status = status_of(threads, alloc, &run, SUM.as_bytes(), out, &mut err);
+    status == 5 && page == *b"5" && err.as_slice() == b"device\n".as_slice()
 }

@@ -22,7 +22,7 @@ use std::thread::Threads;
 use std::time::Clock;
 
 /// The groups of cases. Those of `NAME` are in the file `NAME.txt`.
-const GROUPS: [&str; 21] = [
+static GROUPS: [&str; 21] = [
     "command_line",
     "commands",
     "schedules",
@@ -65,8 +65,8 @@ fn conformance(
     threads: &(impl Threads + Wait + Clock + Sync),
 ) -> Result<usize, Failure> {
     let mut differing = 0usize;
-    for group in GROUPS {
-        differing = differing.saturating_add(groups::try_group(rt, threads, group)?);
+    for group in &GROUPS {
+        differing = differing.saturating_add(groups::try_group(rt, threads, *group)?);
     }
     let calls = calls::try_calls(rt, threads)?;
     let sources = hostile_sources::try_hostile_sources(rt)?;

@@ -51,11 +51,7 @@ pub fn outcome(
             add_end(&mut out, &[], 0)?;
         }
         Err(LineFault::Bad(text)) => add_end(&mut out, text.as_bytes(), 2)?,
-        Err(LineFault::Memory) => {
-            let mut err = WriterOut::new(Vec::new(alloc));
-            let status = report(Failure::Memory, &mut err);
-            add_end(&mut out, err.into_inner().as_slice(), status)?;
-        }
+        Err(LineFault::Memory) => add_failure(alloc, Failure::Memory, "", &mut out)?,
     }
     Ok(out)
 }
@@ -100,14 +96,19 @@ fn add_end(out: &mut Vec<u8>, err: &[u8], status: u8) -> io::Result<()> {
     writeln!(out, "--- status {status}")
 }
 
-/// Adds what is reported of a file that is not read.
-fn add_unread(rt: &HostRuntime, unread: &Unread<'_>, out: &mut Vec<u8>) -> io::Result<()> {
-    let mut device = WriterOut::new(Vec::new(rt.alloc()));
-    let status = report(Failure::from(unread.error), &mut device);
-    let text = unread.error_text(rt.alloc())?;
+/// Adds what is reported of a failure, with a text after it.
+fn add_failure(alloc: Global, failure: Failure, text: &str, out: &mut Vec<u8>) -> io::Result<()> {
+    let mut device = WriterOut::new(Vec::new(alloc));
+    let status = report(failure, &mut device);
     let mut err = device.into_inner();
     err.extend_from_slice(text.as_bytes())?;
     add_end(out, err.as_slice(), status)
+}
+
+/// Adds what is reported of a file that is not read.
+fn add_unread(alloc: Global, unread: &Unread<'_>, out: &mut Vec<u8>) -> io::Result<()> {
+    let text = unread.error_text(alloc)?;
+    add_failure(alloc, Failure::from(unread.error), text.as_str(), out)
 }
 
 /// Carries out a command on its files, and adds its outcome.
@@ -120,14 +121,16 @@ fn carry_out(
 ) -> io::Result<()> {
     let files = match files_of(rt, case, order) {
         Ok(files) => files,
-        Err(unread) => return add_unread(rt, &unread, out),
+        Err(unread) => return add_unread(rt.alloc(), &unread, out),
     };
     let order = match with_run_file(rt.alloc(), case, order)? {
         Some(order) => order,
-        None => return add_malformed(rt, order, out),
+        None => return add_malformed(rt.alloc(), order, out),
     };
-    let record = add_driven(rt, threads, &order, &files, out)?;
-    add_record(rt, threads, case, &order, &files, record, out)?;
+    let schedule = files.schedule.as_slice();
+    let record = add_driven(rt, threads, &order, files.source.as_slice(), schedule, out)?;
+    let source = files.source.as_slice();
+    add_record(rt, threads, case, &order, source, record.as_ref(), out)?;
     if case.expected_outcome.contains("\n--- answer ") {
         let answer = answer(rt.alloc(), &order, &files)?;
         writeln!(out, "--- answer {answer}")?;
@@ -153,17 +156,18 @@ fn with_run_file<'a>(
 }
 
 /// Adds what is reported of a file that is not a `.run` file.
-fn add_malformed(rt: &HostRuntime, order: &Order<'_>, out: &mut Vec<u8>) -> io::Result<()> {
-    let name = run_file_name(rt.alloc(), order.schedule_file().unwrap_or(""))?;
+fn add_malformed(alloc: Global, order: &Order<'_>, out: &mut Vec<u8>) -> io::Result<()> {
+    let name = run_file_name(alloc, order.schedule_file().unwrap_or(""))?;
     let malformed = Malformed {
         file: name.as_str(),
     };
-    let mut err = WriterOut::new(Vec::new(rt.alloc()));
-    let status = report(Failure::Refused(run_files::MALFORMED), &mut err);
-    let text = malformed.error_text(rt.alloc())?;
-    let mut err = err.into_inner();
-    err.extend_from_slice(text.as_bytes())?;
-    add_end(out, err.as_slice(), status)
+    let text = malformed.error_text(alloc)?;
+    add_failure(
+        alloc,
+        Failure::Refused(run_files::MALFORMED),
+        text.as_str(),
+        out,
+    )
 }
 
 /// The files of a command: the texts of the case, and otherwise the files that the command names.
@@ -206,19 +210,13 @@ pub fn add_driven(
     rt: &HostRuntime,
     threads: &(impl Threads + Wait + Clock + Sync),
     order: &Order<'_>,
-    files: &Files,
+    source: &[u8],
+    schedule: &[u8],
     out: &mut Vec<u8>,
 ) -> io::Result<Option<RecordFiles>> {
     let err = WriterOut::new(Vec::new(rt.alloc()));
     let mut outputs = Outputs::new(WriterOut::new(&mut *out), err);
-    let status = drive(
-        threads,
-        rt.alloc(),
-        order,
-        files.source.as_slice(),
-        files.schedule.as_slice(),
-        &mut outputs,
-    );
+    let status = drive(threads, rt.alloc(), order, source, schedule, &mut outputs);
     let Outputs { err, files, .. } = outputs;
     add_end(out, err.into_inner().as_slice(), status)?;
     Ok(files)

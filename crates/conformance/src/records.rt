@@ -1,7 +1,7 @@
 //! The record of a case that workers run, and its replay.
 
 use crate::cases::Case;
-use crate::outcomes::{Files, add_driven};
+use crate::outcomes::add_driven;
 use commands::{GivenLimits, Order, Run, RunKind};
 use driver::RecordFiles;
 use std::io;
@@ -24,8 +24,8 @@ pub fn add_record(
     threads: &(impl Threads + Wait + Clock + Sync),
     case: &Case<'_>,
     order: &Order<'_>,
-    files: &Files,
-    record: Option<RecordFiles>,
+    source: &[u8],
+    record: Option<&RecordFiles>,
     out: &mut Vec<u8>,
 ) -> io::Result<()> {
     let wants_record = case.expected_outcome.contains("\n--- record");
@@ -45,7 +45,7 @@ pub fn add_record(
         out.extend_from_slice(record.run.as_bytes())?;
     }
     if case.expected_outcome.contains("\n--- replayed") {
-        add_replay(rt, threads, order, files, record, out)?;
+        add_replay(rt, threads, order, source, record, out)?;
     }
     Ok(())
 }
@@ -55,8 +55,8 @@ fn add_replay(
     rt: &HostRuntime,
     threads: &(impl Threads + Wait + Clock + Sync),
     order: &Order<'_>,
-    files: &Files,
-    record: RecordFiles,
+    source: &[u8],
+    record: &RecordFiles,
     out: &mut Vec<u8>,
 ) -> io::Result<()> {
     let Order::Run(run) = *order else {
@@ -68,12 +68,9 @@ fn add_replay(
         expected: run_files::read(record.run.as_bytes()),
     };
     let replay = Order::Run(Run { kind, ..run });
-    let mut source = Vec::new(rt.alloc());
-    source.extend_from_slice(files.source.as_slice())?;
-    let schedule = Vec::from_slice(rt.alloc(), record.schedule.as_bytes())?;
-    let files = Files { source, schedule };
     let mut replayed = Vec::new(rt.alloc());
-    add_driven(rt, threads, &replay, &files, &mut replayed)?;
+    let schedule = record.schedule.as_bytes();
+    add_driven(rt, threads, &replay, source, schedule, &mut replayed)?;
     if out.as_slice().starts_with(replayed.as_slice()) {
         out.extend_from_slice(b"--- replayed\n")?;
     } else {

@@ -177,19 +177,26 @@ fn add_words(name: &str, (old, new): (u32, u32), out: &mut Vec<u8>) -> io::Resul
     }
 }
 
-/// Adds `r` for ran, `b` blocked, `a` absent, `k` acknowledged, `n` nothing posted, `o` worked, `w` waiting, and the end of a thread in
-/// brackets.
+/// Adds the letter of a report, or the end of a thread in brackets.
 fn add_report(report: Report, out: &mut Vec<u8>) -> io::Result<()> {
+    match (letter_of(report), report) {
+        (Some(letter), _) => write!(out, " {letter}"),
+        (None, Report::Ended(End::Fault(fault))) => write!(out, " [{fault:?}]"),
+        (None, Report::Ended(end)) => write!(out, " [{end:?}]"),
+        _ => write!(out, " [{report:?}]"),
+    }
+}
+
+/// `r` for ran, `b` blocked, `a` absent, `k` acknowledged, `n` nothing posted, `o` worked, `w` waiting. None for the end of a thread or of a cycle.
+fn letter_of(report: Report) -> Option<char> {
     match report {
-        Report::Ran => write!(out, " r"),
-        Report::Blocked => write!(out, " b"),
-        Report::Absent => write!(out, " a"),
-        Report::Acked => write!(out, " k"),
-        Report::NothingPosted => write!(out, " n"),
-        Report::Worked => write!(out, " o"),
-        Report::Waiting => write!(out, " w"),
-        Report::Ended(End::Fault(fault)) => write!(out, " [{fault:?}]"),
-        Report::Ended(end) => write!(out, " [{end:?}]"),
-        other => write!(out, " [{other:?}]"),
+        Report::Ran => Some('r'),
+        Report::Blocked => Some('b'),
+        Report::Absent => Some('a'),
+        Report::Acked => Some('k'),
+        Report::NothingPosted => Some('n'),
+        Report::Worked => Some('o'),
+        Report::Waiting => Some('w'),
+        Report::Ended(_) | Report::CycleDone => None,
     }
 }

@@ -19,12 +19,34 @@ use std::alloc::Global;
 use std::iter::repeat_n;
 
 /// What the machine reported and printed in a run, up to the first event after which the test interpreter differs.
-#[derive(Drop)]
 pub struct Comparison {
     pub reports: Vec<Report>,
     pub printed: Vec<u8>,
     /// The outcome of the last event on both machines, where they differ.
     pub difference: Option<String>,
+}
+
+/// Each part is dropped.
+impl Drop for Comparison {
+    fn drop(self) {
+        let Comparison {
+            reports: _reports,
+            printed: _printed,
+            difference: _difference,
+        } = self;
+    }
+}
+
+impl Comparison {
+    /// The outcome of the last event on both machines, where they differ.
+    fn into_difference(self) -> Option<String> {
+        let Comparison {
+            reports: _reports,
+            printed: _printed,
+            difference,
+        } = self;
+        difference
+    }
 }
 
 /// Runs the program of a source by the events of a schedule's text on both machines, and returns the outcome of the first event after
@@ -44,7 +66,7 @@ pub(crate) fn difference_in(
     comparison: Result<Comparison, Failure>,
 ) -> Result<Option<String>, Failure> {
     match comparison {
-        Ok(comparison) => Ok(comparison.difference),
+        Ok(comparison) => Ok(comparison.into_difference()),
         Err(Failure::Refused(_)) | Err(Failure::OutOfRange(_)) => Ok(None),
         Err(failure) => Err(failure),
     }
