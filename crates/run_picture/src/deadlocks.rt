@@ -63,19 +63,30 @@ fn add_wait(
 ) -> Result<(), AllocError> {
     match machine.wait_of(thread) {
         Some(Wait::Monitor { owner, .. }) => {
-            write!(text, "thread {thread} waits for ")?;
-            add_monitor(text, machine, monitors, thread)?;
-            let owner = OwnerText {
-                thread: owner,
-                is_live: machine.is_live(owner),
-            };
-            write!(text, "{owner}")
+            add_monitor_wait(text, machine, monitors, thread, owner)
         }
         Some(Wait::Join { thread: joined }) => {
             write!(text, "thread {thread} waits for the end of thread {joined}")
         }
         None => Ok(()),
     }
+}
+
+/// Appends that a thread waits for a monitor of this owner.
+fn add_monitor_wait(
+    text: &mut String,
+    machine: &Machine,
+    monitors: &Monitors,
+    thread: u8,
+    owner: u8,
+) -> Result<(), AllocError> {
+    write!(text, "thread {thread} waits for ")?;
+    add_monitor(text, machine, monitors, thread)?;
+    let owner = OwnerText {
+        thread: owner,
+        is_live: machine.is_live(owner),
+    };
+    write!(text, "{owner}")
 }
 
 /// Appends the letters of the monitor that a thread waits for, in front of its owner.

@@ -33,16 +33,27 @@ pub(crate) struct ShortInstruction<'a>(pub(crate) &'a Instruction);
 impl<'a> fmt::Display for ShortInstruction<'a> {
     fn fmt<W: fmt::Write>(&self, f: &mut fmt::Formatter<W>) -> fmt::Result {
         match self.0 {
-            Instruction::Call { method, .. } => write!(f, "{}()", MethodNameText(&method.name)),
-            Instruction::CallVirtual { name, .. } => write!(f, "{}()", CharactersText(name)),
-            Instruction::NewObject(owner, _) if owner.name.as_str() == "System.Object" => {
-                f.write_str("new Object")
-            }
-            other => match word_and_name(other) {
-                Some((word, name)) => write!(f, "{word} {}", CharactersText(name)),
-                None => InstructionText(other).fmt(f),
-            },
+            Instruction::Call { method, .. } => write_call(f, &MethodNameText(&method.name)),
+            Instruction::CallVirtual { name, .. } => write_call(f, &CharactersText(name)),
+            other => write_short(f, other),
         }
+    }
+}
+
+fn write_call<W: fmt::Write, N: Display>(f: &mut fmt::Formatter<W>, name: &N) -> fmt::Result {
+    write!(f, "{name}()")
+}
+
+/// An instruction that is no call.
+fn write_short<W: fmt::Write>(f: &mut fmt::Formatter<W>, instruction: &Instruction) -> fmt::Result {
+    if let Instruction::NewObject(owner, _) = instruction {
+        if owner.name.as_str() == "System.Object" {
+            return f.write_str("new Object");
+        }
+    }
+    match word_and_name(instruction) {
+        Some((word, name)) => write!(f, "{word} {}", CharactersText(name)),
+        None => InstructionText(instruction).fmt(f),
     }
 }
 

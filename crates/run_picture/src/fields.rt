@@ -83,28 +83,34 @@ fn field_index(class: &Class, reference: &FieldReference) -> Option<usize> {
     None
 }
 
-/// Adds a field with its name, as `Program::sum`, given the thread that loads or stores it first.
+/// Adds a field, given the thread that loads or stores it first.
 fn add_field(
     scene: &mut Scene,
     tree: &Tree,
     id: FieldDeclaration,
     thread: usize,
 ) -> Result<(), AllocError> {
-    let from = scene.text.len();
-    if let Some(class) = tree.classes.as_slice().get(id.class) {
-        if let Some(Member::Field(field)) = class.members.as_slice().get(id.member) {
-            let owner = CharactersText(&class.name);
-            let name = CharactersText(&field.name);
-            write!(scene.text, "{owner}::{name}")?;
-        }
-    }
-    let to = scene.text.len();
+    let name = add_name(&mut scene.text, tree, id)?;
     scene.fields.push(Field {
         class: id.class,
         member: id.member,
-        name: Part { from, to },
+        name,
         thread,
         is_shared: false,
     })?;
     Ok(())
+}
+
+/// Appends the name of a field, as `Program::sum`, and returns where it is.
+fn add_name(text: &mut String, tree: &Tree, id: FieldDeclaration) -> Result<Part, AllocError> {
+    let from = text.len();
+    if let Some(class) = tree.classes.as_slice().get(id.class) {
+        if let Some(Member::Field(field)) = class.members.as_slice().get(id.member) {
+            let owner = CharactersText(&class.name);
+            let name = CharactersText(&field.name);
+            write!(text, "{owner}::{name}")?;
+        }
+    }
+    let to = text.len();
+    Ok(Part { from, to })
 }

@@ -1,6 +1,6 @@
 //! Runs a machine by the events that items represent, and draws those of a window.
 
-ghost use Rattle.std.specs.Prelude.{◌≡◌, ◌⊎◌, ◌+◌, Bool, IfErr, IfOk, OnErr, OnOk, ℕ, List, [], Option, replicate, string_bytes};
+ghost use Rattle.std.specs.Prelude.{◌≡◌, ◌⊎◌, ◌+◌, Bool, IfErr, IfOk, OnErr, OnOk, ℕ, List, [], Option, length, replicate, string_bytes};
 ghost use Rattle.cil_model.specs.declared.reports.Report.{Report as AnyReport};
 ghost use Rattle.event_trace.specs.interleaving_core.simulation.Transitions.{IsTransition};
 ghost use Rattle.outputs.specs.Streams.{HasGrown};
@@ -107,6 +107,7 @@ impl Sketch {
         requires positions { ArePositionsOf machine.old.tree methods.now }
         requires empty { self.old.rows.rows.items ≡ replicate ROWS [] }
         ensures sketched { OnOk result (AreSketched machine.old (events_of items.now) machine.new self.old.window self.new.rows.rows.items) }
+        ensures number { IfOk result (λ number. number ≡ length (events_of items.now)) }
         ensures same { (machine.new.tree ≡ machine.old.tree) × (machine.new.limits ≡ machine.old.limits) }
         ensures stopped { OnErr result ((window : AnyWindow) (out : Option (List ℕ)) → IsPictureInPart machine.old (events_of items.now) machine.new window out out) }
         ensures memory { IfErr result (λ error. error ≡ MemoryRanOut) }

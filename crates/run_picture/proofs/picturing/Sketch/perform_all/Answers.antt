@@ -1,4 +1,4 @@
-use Rattle.std.proofs.Common.{◌≤◌, ◌∙◌, length, inr, rules, subst, sym, take}
+use Rattle.std.proofs.Common.{◌≤◌, ◌∙◌, ap, length, inr, rules, subst, sym, take}
 use Rattle.cil_model.specs.declared.events.Event.TheVariants.{Gc}
 use Rattle.cil_model.specs.declared.trees.Tree.{Tree}
 use Rattle.schedule_text.specs.Items.{events_of}
@@ -61,6 +61,11 @@ pub returns-clause-sketched : goal.returns-clause-sketched
 returns-clause-sketched c =
     let past : length c.args.items.now ≤ c.loop-item.item-index = c.loop-item-test.false in
     subst (λ es. AreSketched c.args.machine.now es c.loop-item.machine c.args.self.now.window c.loop-item.self.rows.rows.items) (so_far_whole c.args.items.now c.loop-item.item-index past) c.loop-item.invariant.sketched
+
+pub returns-clause-number : goal.returns-clause-number
+returns-clause-number c =
+    let past : length c.args.items.now ≤ c.loop-item.item-index = c.loop-item-test.false in
+    c.loop-item.invariant.number ∙ ap length (so_far_whole c.args.items.now c.loop-item.item-index past)
 
 pub returns-clause-same : goal.returns-clause-same
 returns-clause-same c =
