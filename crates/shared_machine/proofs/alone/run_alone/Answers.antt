@@ -20,3 +20,6 @@ returns-clause-events g c =
     (subst (λ n. AreOf n h) c.requires.alone c.in-Ok.ensures.theirs)
     (of_only (AgreesWith h) _ _ c.act_while_memory_lasts-ticket.result.0 c.push_reserved.ensures.items left c.in-Ok.ensures.counts) in
     subst (λ es. AreDoneOf (events_in c.args.items.now) es c.act_while_memory_lasts-ticket.result.1) (sym same) are
+
+pub returns-clause-ran : goal.returns-clause-ran
+returns-clause-ran g c = c.in-Ok.ensures.ran
