@@ -95,8 +95,14 @@ fn shift_by(op: ShiftOperation, x: i64, unsigned: u64, bits: u32) -> i64
     }
 }
 
-/// `ceq`, `cgt` and `clt`: an order of integers of one size alone, and whether two references are of one object.
-pub fn compare(op: Comparison, v: Value, w: Value) -> Result<bool, Halt> {
+/// `ceq`, `cgt` and `clt`: 1 where the comparison holds, otherwise 0.
+pub fn compare(op: Comparison, v: Value, w: Value) -> Result<Value, Halt> {
+    let holds = holds(op, v, w)?;
+    Ok(Value::Int32(i32::from(holds)))
+}
+
+/// Whether a comparison holds: an order of integers of one size alone, and whether two references are of one object.
+fn holds(op: Comparison, v: Value, w: Value) -> Result<bool, Halt> {
     let (x, y) = match (v, w) {
         (Value::Int32(x), Value::Int32(y)) => (i64::from(x), i64::from(y)),
         (Value::Int64(x), Value::Int64(y)) => (x, y),
@@ -123,7 +129,7 @@ pub fn is_taken(op: BranchComparison, v: Value, w: Value) -> Result<bool, Halt> 
         BranchComparison::LessOrEqual => (Comparison::Greater, false),
         BranchComparison::Less => (Comparison::Less, true),
     };
-    Ok(compare(test, v, w)? == required)
+    Ok(holds(test, v, w)? == required)
 }
 
 /// Whether the value is neither zero nor null.

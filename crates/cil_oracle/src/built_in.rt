@@ -39,14 +39,15 @@ impl<'a> State<'a> {
     /// Does the action on the one operand that each has. A blocked one leaves it on the stack.
     pub fn act(&mut self, frame: &mut Frame<'a>, action: Action) -> Done {
         let operand = frame.top()?;
-        match action {
-            Action::Construct => {}
-            Action::Write => self.write_line(operand)?,
-            Action::Enter => self.enter(operand.not_null(Fault::ArgumentNull)?)?,
-            Action::Exit => self.exit(operand.not_null(Fault::ArgumentNull)?)?,
-            Action::Start => self.start(operand.not_null(Fault::NullReference)?)?,
-            Action::Join => self.join(operand.not_null(Fault::NullReference)?)?,
-        }
+        let done = match action {
+            Action::Construct => Ok(()),
+            Action::Write => self.write_line(operand),
+            Action::Enter => self.enter(operand),
+            Action::Exit => self.exit(operand),
+            Action::Start => self.start(operand),
+            Action::Join => self.join(operand),
+        };
+        done?;
         frame.pop()?;
         Ok(Effect::Next)
     }
@@ -68,7 +69,8 @@ impl<'a> State<'a> {
     }
 
     /// A monitor that is free or the thread's own is entered once more; another's blocks (ECMA-335 I.12.6.5).
-    fn enter(&mut self, name: usize) -> Result<(), Halt> {
+    fn enter(&mut self, operand: Value) -> Result<(), Halt> {
+        let name = operand.not_null(Fault::ArgumentNull)?;
         let own = self.transition.thread;
         let monitor = &mut self.heap.object_mut(name)?.monitor;
         let count = match *monitor {
@@ -81,7 +83,8 @@ impl<'a> State<'a> {
     }
 
     /// The owner leaves a monitor once; no other thread may.
-    fn exit(&mut self, name: usize) -> Result<(), Halt> {
+    fn exit(&mut self, operand: Value) -> Result<(), Halt> {
+        let name = operand.not_null(Fault::ArgumentNull)?;
         let own = self.transition.thread;
         let monitor = &mut self.heap.object_mut(name)?.monitor;
         *monitor = match *monitor {
@@ -96,7 +99,8 @@ impl<'a> State<'a> {
     }
 
     /// A new thread, at the beginning of the object's `Run` with its whole budget.
-    fn start(&mut self, name: usize) -> Result<(), Halt> {
+    fn start(&mut self, operand: Value) -> Result<(), Halt> {
+        let name = operand.not_null(Fault::NullReference)?;
         let run = self.names.run_method(self.heap.class_of(name)?)?;
         if self.heap.object(name)?.thread.is_some() {
             return Err(Halt::Raises(Fault::ThreadState));
@@ -113,7 +117,8 @@ impl<'a> State<'a> {
     }
 
     /// Waits while the object's thread is live.
-    fn join(&mut self, name: usize) -> Result<(), Halt> {
+    fn join(&mut self, operand: Value) -> Result<(), Halt> {
+        let name = operand.not_null(Fault::NullReference)?;
         match self.heap.object(name)?.thread {
             None => Err(Halt::Raises(Fault::ThreadState)),
             Some(thread) if self.is_live(thread) => Err(Halt::Blocks),

@@ -77,9 +77,9 @@ impl<'a> Frame<'a> {
         Err(Halt::Sticks)
     }
 
-    /// There where the test holds, otherwise to the next instruction.
-    pub fn jump_if(&self, holds: bool, label: &Text) -> Done {
-        if holds {
+    /// There where the test has this result, otherwise to the next instruction.
+    pub fn jump_if(&self, test: Result<bool, Halt>, is_taken: bool, label: &Text) -> Done {
+        if test? == is_taken {
             self.jump(label)
         } else {
             Ok(Effect::Next)
@@ -119,6 +119,11 @@ impl<'a> Frame<'a> {
     pub fn next_with(&mut self, value: Value) -> Done {
         self.stack.push(value)?;
         Ok(Effect::Next)
+    }
+
+    /// The same with a value that was computed, or that is none.
+    pub fn next_with_result(&mut self, value: Result<Value, Halt>) -> Done {
+        self.next_with(value?)
     }
 
     /// Takes `count` values off the stack, the first pushed first.

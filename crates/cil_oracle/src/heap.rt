@@ -141,6 +141,30 @@ impl<'a> Heap<'a> {
         }
     }
 
+    /// The value of a field of an object.
+    pub fn field(&self, name: usize, field: FieldId) -> Result<Value, Halt> {
+        match &self.object(name)?.contents {
+            Contents::Instance(_, fields) => field_in(fields.as_slice(), field),
+            _ => Err(Halt::Sticks),
+        }
+    }
+
+    /// Puts another value of its kind into a field of an object.
+    pub fn set_field(&mut self, name: usize, field: FieldId, value: Value) -> Result<(), Halt> {
+        match &mut self.object_mut(name)?.contents {
+            Contents::Instance(_, fields) => set_field_in(fields.as_mut_slice(), field, value),
+            _ => Err(Halt::Sticks),
+        }
+    }
+
+    /// Puts another value of its kind at an index of an array.
+    pub fn set_element(&mut self, name: usize, index: usize, value: Value) -> Result<(), Halt> {
+        match &mut self.object_mut(name)?.contents {
+            Contents::Array(_, elements) => set_value(elements.as_mut_slice(), index, value),
+            _ => Err(Halt::Sticks),
+        }
+    }
+
     /// The class of an object, by which a virtual call finds its method.
     pub fn class_of(&self, name: usize) -> Result<ClassId, Halt> {
         match &self.object(name)?.contents {
@@ -163,6 +187,20 @@ impl<'a> Heap<'a> {
             Contents::Array(element, _) => element.array(),
             Contents::Literal(_) => OracleType::plain(OracleElement::String),
         })
+    }
+
+    /// A reference has to be of the type of the array's elements, to be stored in it.
+    pub fn check_stored(
+        &self,
+        names: &OracleNames<'_>,
+        array: usize,
+        value: Value,
+    ) -> Result<(), Halt> {
+        let (element, _) = self.array(array)?;
+        if element.is_reference() && !self.fits(names, value, element)? {
+            return Err(Halt::Raises(Fault::ArrayTypeMismatch));
+        }
+        Ok(())
     }
 
     /// Whether the object of a reference is of the type; null is of every type.

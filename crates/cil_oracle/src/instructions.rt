@@ -63,12 +63,12 @@ fn execute_in_frame(frame: &mut Frame<'_>, instruction: &Instruction) -> Done {
         Instruction::LoadInt64(number) => frame.next_with(Value::Int64(*number)),
         Instruction::LoadNull => frame.next_with(Value::Null),
         Instruction::LoadArgument(index) => {
-            let value = value_at(frame.arguments.as_slice(), *index)?;
-            frame.next_with(value)
+            let value = value_at(frame.arguments.as_slice(), *index);
+            frame.next_with_result(value)
         }
         Instruction::LoadLocal(index) => {
-            let value = value_at(frame.locals.as_slice(), *index)?;
-            frame.next_with(value)
+            let value = value_at(frame.locals.as_slice(), *index);
+            frame.next_with_result(value)
         }
         Instruction::StoreArgument(index) => {
             let value = frame.pop()?;
@@ -79,8 +79,8 @@ fn execute_in_frame(frame: &mut Frame<'_>, instruction: &Instruction) -> Done {
             next_stored(frame.locals.as_mut_slice(), *index, value)
         }
         Instruction::Duplicate => {
-            let value = frame.top()?;
-            frame.next_with(value)
+            let value = frame.top();
+            frame.next_with_result(value)
         }
         Instruction::Pop => {
             frame.pop()?;
@@ -98,12 +98,17 @@ fn execute_on_operands(frame: &mut Frame<'_>, instruction: &Instruction) -> Done
     }
     let last = frame.pop()?;
     match instruction {
-        Instruction::Unary(op) => frame.next_with(unary(*op, last)?),
-        Instruction::ConvertInt32 => frame.next_with(to_int32(last)?),
-        Instruction::ConvertInt64 => frame.next_with(to_int64(last)?),
-        Instruction::Branch(BranchCondition::IfTrue, label) => frame.jump_if(is_set(last)?, label),
+        Instruction::Unary(op) => frame.next_with_result(unary(*op, last)),
+        Instruction::ConvertInt32 => frame.next_with_result(to_int32(last)),
+        Instruction::ConvertInt64 => frame.next_with_result(to_int64(last)),
+        Instruction::Branch(BranchCondition::IfTrue, label) => frame.jump_if(
+            is_set(last),
+            true,
+            label,
+        ),
         Instruction::Branch(BranchCondition::IfFalse, label) => frame.jump_if(
-            !is_set(last)?,
+            is_set(last),
+            false,
             label,
         ),
         Instruction::Switch(labels) => match last {
@@ -121,14 +126,11 @@ fn execute_on_operands(frame: &mut Frame<'_>, instruction: &Instruction) -> Done
 fn execute_on_two(frame: &mut Frame<'_>, instruction: &Instruction, last: Value) -> Done {
     let first = frame.pop()?;
     match instruction {
-        Instruction::Binary(op) => frame.next_with(binary(*op, first, last)?),
-        Instruction::Shift(op) => frame.next_with(shift(*op, first, last)?),
-        Instruction::Compare(op) => {
-            let holds = compare(*op, first, last)?;
-            frame.next_with(Value::Int32(i32::from(holds)))
-        }
+        Instruction::Binary(op) => frame.next_with_result(binary(*op, first, last)),
+        Instruction::Shift(op) => frame.next_with_result(shift(*op, first, last)),
+        Instruction::Compare(op) => frame.next_with_result(compare(*op, first, last)),
         Instruction::Branch(BranchCondition::Compare(op), label) => {
-            frame.jump_if(is_taken(*op, first, last)?, label)
+            frame.jump_if(is_taken(*op, first, last), true, label)
         }
         _ => Err(Halt::Sticks),
     }

@@ -2,7 +2,7 @@
 
 use crate::effects::{Done, Effect, Halt};
 use crate::frames::Frame;
-use crate::heap::{Contents, field_in, set_field_in, set_value};
+use crate::heap::{Contents, field_in, set_field_in};
 use crate::state::State;
 use crate::values::Value;
 use cil_model::instructions::{ElementKind, FieldReference};
@@ -16,10 +16,7 @@ impl<'a> State<'a> {
     pub fn load_field(&mut self, frame: &mut Frame<'a>, reference: &FieldReference) -> Done {
         let name = frame.pop()?.not_null(Fault::NullReference)?;
         let field = self.names.field(false, reference)?;
-        match &self.heap.object(name)?.contents {
-            Contents::Instance(_, fields) => frame.next_with(field_in(fields.as_slice(), field)?),
-            _ => Err(Halt::Sticks),
-        }
+        frame.next_with_result(self.heap.field(name, field))
     }
 
     /// `stfld` (ECMA-335 III.4.28).
@@ -27,19 +24,14 @@ impl<'a> State<'a> {
         let value = frame.pop()?;
         let name = frame.pop()?.not_null(Fault::NullReference)?;
         let field = self.names.field(false, reference)?;
-        match &mut self.heap.object_mut(name)?.contents {
-            Contents::Instance(_, fields) => {
-                set_field_in(fields.as_mut_slice(), field, value)?;
-                Ok(Effect::Next)
-            }
-            _ => Err(Halt::Sticks),
-        }
+        self.heap.set_field(name, field, value)?;
+        Ok(Effect::Next)
     }
 
     /// `ldsfld` (ECMA-335 III.4.14).
     pub fn load_static(&mut self, frame: &mut Frame<'a>, reference: &FieldReference) -> Done {
         let field = self.names.field(true, reference)?;
-        frame.next_with(field_in(self.statics.as_slice(), field)?)
+        frame.next_with_result(field_in(self.statics.as_slice(), field))
     }
 
     /// `stsfld` (ECMA-335 III.4.30).
@@ -107,17 +99,9 @@ impl<'a> State<'a> {
         let index = frame.pop()?;
         let name = frame.pop()?.not_null(Fault::NullReference)?;
         let index = self.heap.element_index(name, index, kind)?;
-        let (element, _) = self.heap.array(name)?;
-        if element.is_reference() && !self.heap.fits(self.names, value, element)? {
-            return Err(Halt::Raises(Fault::ArrayTypeMismatch));
-        }
-        match &mut self.heap.object_mut(name)?.contents {
-            Contents::Array(_, elements) => {
-                set_value(elements.as_mut_slice(), index, value)?;
-                Ok(Effect::Next)
-            }
-            _ => Err(Halt::Sticks),
-        }
+        self.heap.check_stored(self.names, name, value)?;
+        self.heap.set_element(name, index, value)?;
+        Ok(Effect::Next)
     }
 }
 
