@@ -4,7 +4,7 @@ ghost use Rattle.clap.specs.Words.{App, Rule, app_of, new_app, with_rule, with_s
 ghost use Rattle.clap.specs.declared.builder.value_parser.ValueParser.TheVariants as vp;
 ghost use Rattle.command_line.specs.CommandLine.{IsArgument, IsCommand, check_app, cilvm_app, explore_app, file_rule, flag_rule};
 ghost use Rattle.command_line.specs.CommandLine.{flip_app, required_rule, number_rule, picture_app, replay_app, run_app, text_rule, threads_app, trace_app, with_default};
-ghost use Rattle.command_line.specs.CommandLine.{with_explain, with_files, with_given_limits, with_limits, with_output, with_part, with_required_subcommand, with_run_options, with_source, with_stats, with_version};
+ghost use Rattle.command_line.specs.CommandLine.{with_explain, with_files, with_given_limits, with_limits, with_output, with_part, with_printed, with_required_subcommand, with_run_options, with_runs, with_source, with_stats, with_version, with_views};
 
 use crate::version::VERSION;
 use cil_model::limits::{LEAST_WORDS, MOST_BUDGET, MOST_DEPTH, MOST_WORDS};
@@ -279,6 +279,16 @@ fn with_given_limits<'a>(
     with_argument(command, depth)
 }
 
+/// The options of what a run prints: the most bytes of its program, and its numbers.
+fn with_printed<'a>(
+    alloc: Global,
+    command: Result<Command<'a>, AllocError>,
+) -> Result<Command<'a>, AllocError>
+    ensures { (app : App) → IfOk command.entry (IsCommand app) → IfOk result (IsCommand (with_printed app)) }
+{
+    with_stats(alloc, with_output(alloc, command))
+}
+
 /// The options of a run: what is explained of it, and its limits.
 fn with_run_options<'a>(
     alloc: Global,
@@ -326,8 +336,7 @@ pub fn threads_command<'a>(alloc: Global) -> Result<Command<'a>, AllocError>
         "stop-at-deadlock",
         "Stops also once all live threads wait for one another, and explains that",
     );
-    let command = with_output(alloc, with_argument(command, stop));
-    let command = with_stats(alloc, command);
+    let command = with_printed(alloc, with_argument(command, stop));
     with_run_options(alloc, command, EXPLAIN_RUN)
 }
 
@@ -346,8 +355,7 @@ fn run_command<'a>(alloc: Global) -> Result<Command<'a>, AllocError>
         "EVENTS",
         "The events in their order, as 's0*5 g a0'",
     );
-    let command = with_output(alloc, with_argument(command, schedule));
-    let command = with_stats(alloc, command);
+    let command = with_printed(alloc, with_argument(command, schedule));
     with_run_options(alloc, command, EXPLAIN_RUN)
 }
 
@@ -360,8 +368,7 @@ fn replay_command<'a>(alloc: Global) -> Result<Command<'a>, AllocError>
         "Runs a source by a schedule that a file holds",
         "The file has the events in the form that 'cilvm run --help' describes, on as many lines as you like. Where a file SCHEDULE.run is beside it, as 'cilvm threads --record' writes one, it has the limits of the recorded run, and another source, other limits or another output are reported, with status 6.\n\nExample, which prints 5:\n  cilvm replay examples/add.il examples/add.schedule",
     );
-    let command = with_output(alloc, command);
-    let command = with_explain(alloc, with_stats(alloc, command), EXPLAIN_RUN);
+    let command = with_explain(alloc, with_printed(alloc, command), EXPLAIN_RUN);
     with_given_limits(alloc, command)
 }
 
@@ -518,16 +525,35 @@ fn with_command<'a>(
     program.subcommand(command)
 }
 
-/// The whole command line.
-pub fn cilvm_command<'a>(alloc: Global) -> Result<Command<'a>, AllocError>
-    ensures { IfOk result (λ c. app_of c ≡ cilvm_app) }
+/// A program with the commands that check and run a source.
+fn with_runs<'a>(
+    alloc: Global,
+    program: Result<Command<'a>, AllocError>,
+) -> Result<Command<'a>, AllocError>
+    ensures { (app : App) → IfOk program.entry (λ p. app_of p ≡ app) → IfOk result (λ c. app_of c ≡ with_runs app) }
 {
-    let program = with_command(Ok(program(alloc)), check_command(alloc));
+    let program = with_command(program, check_command(alloc));
     let program = with_command(program, threads_command(alloc));
     let program = with_command(program, run_command(alloc));
-    let program = with_command(program, replay_command(alloc));
+    with_command(program, replay_command(alloc))
+}
+
+/// A program with the commands that show runs.
+fn with_views<'a>(
+    alloc: Global,
+    program: Result<Command<'a>, AllocError>,
+) -> Result<Command<'a>, AllocError>
+    ensures { (app : App) → IfOk program.entry (λ p. app_of p ≡ app) → IfOk result (λ c. app_of c ≡ with_views app) }
+{
     let program = with_command(program, trace_command(alloc));
     let program = with_command(program, picture_command(alloc));
     let program = with_command(program, explore_command(alloc));
     with_command(program, flip_command(alloc))
+}
+
+/// The whole command line.
+pub fn cilvm_command<'a>(alloc: Global) -> Result<Command<'a>, AllocError>
+    ensures { IfOk result (λ c. app_of c ≡ cilvm_app) }
+{
+    with_views(alloc, with_runs(alloc, Ok(program(alloc))))
 }
