@@ -15,12 +15,12 @@ use std::fmt;
 /// The most bases that are named.
 const MOST_NAMED: usize = 8;
 
-/// A class that is met again among its bases, by its name and its number among all classes.
+/// A class that is met again among its bases.
 #[derive(Clone, Copy)]
 pub struct CyclicBase<'a> {
     pub class: ClassKey<'a>,
-    pub number: usize,
-    pub names: &'a NameTables<'a>,
+    /// Its first bases, in their order.
+    pub bases: [Option<ClassKey<'a>>; MOST_NAMED],
 }
 
 /// Its bases are named in their order, until it is met again; no more than the first eight of them.
@@ -41,43 +41,44 @@ impl fmt::Display for CyclicBase<'_> {
 
 impl Evidence for CyclicBase<'_> {}
 
-/// The base of a class, with its name.
-fn base_of<'a>(names: &NameTables<'a>, class: ClassId) -> Option<(ClassId, ClassKey<'a>)> {
-    let base = names.base(class)?;
-    Some((base, class_key(names, base)?))
-}
-
 fn write_bases<W: fmt::Write>(f: &mut fmt::Formatter<W>, cyclic_base: &CyclicBase) -> fmt::Result {
-    let mut class = ClassId::new(cyclic_base.number);
-    for _ in 0..MOST_NAMED {
-        let Some((base, key)) = base_of(cyclic_base.names, class) else {
+    for base in &cyclic_base.bases {
+        let Some(base) = base else {
             break;
         };
-        class = base;
-        let text = ClassText(key);
-        write_one(f, " extends `", &text, "`")?;
-        if key == cyclic_base.class {
+        write_one(f, " extends `", &ClassText(*base), "`")?;
+        if *base == cyclic_base.class {
             return Ok(());
         }
     }
     f.write_str(" and so on")
 }
 
+/// The names of the first bases of a class.
+fn bases_of<'a>(names: &NameTables<'a>, class: ClassId) -> [Option<ClassKey<'a>>; MOST_NAMED] {
+    let mut bases = [None; MOST_NAMED];
+    let mut next = names.base(class);
+    for index in 0..MOST_NAMED {
+        let Some(id) = next else {
+            break;
+        };
+        bases[index] = class_key(names, id);
+        next = names.base(id);
+    }
+    bases
+}
+
 /// A class that is its own base. None where the tree has no such class.
 pub(crate) fn cyclic_base<'a>(
-    names: &'a NameTables<'a>,
+    names: &NameTables<'a>,
     class: usize,
 ) -> Option<Located<CyclicBase<'a>>>
     ensures { IfSome result (λ found. IfSome found.1.location (IsOfClass class)) }
 {
     let declared = names.classes.tree.classes.as_slice().get(class)?;
     let key = ClassKey::of_source(declared);
-    let cyclic_base = CyclicBase {
-        class: key,
-        number: names.classes.id(key)?.number(),
-        names,
-    };
+    let bases = bases_of(names, names.classes.id(key)?);
     let part = ClassPart::Base;
     let location = Location::InClass { class, part };
-    Some((cyclic_base, Sites::at(location)))
+    Some((CyclicBase { class: key, bases }, Sites::at(location)))
 }

@@ -7,7 +7,9 @@ use crate::implemented::not_implemented;
 use crate::kinds::kind_mismatch_of;
 use crate::limits::exceeded_limit;
 use crate::rule_evidence::{Evidence, Located};
+use crate::sites::Sites;
 use crate::unknown::unknown_name;
+use metadata::violations;
 use metadata::violations::Violation;
 use source_positions::cil_model::memory::NoMemory;
 use source_positions::cil_model::trees::Tree;
@@ -45,6 +47,14 @@ fn push_note<B: Evidence>(
     }
 }
 
+/// Adds what to write instead, if there is advice on that.
+fn push_advice<B: Evidence>(message: &mut String, evidence: &B) -> Result<(), NoMemory> {
+    if let Some(advice) = evidence.advice() {
+        writeln!(message, "help: {advice}")?;
+    }
+    Ok(())
+}
+
 /// A source that breaks a rule, to a person.
 #[derive(Clone, Copy)]
 struct Explanation<'a> {
@@ -59,42 +69,93 @@ impl Explanation<'_> {
         &self,
         found: Option<Located<B>>,
     ) -> Result<String, NoMemory> {
-        let Some((evidence, sites)) = found else {
-            return rule_text(self.alloc, self.named, self.violation);
-        };
-        let mut message = sentence_at(self.alloc, self.named, &evidence, sites.location)?;
-        push_note(&mut message, self.named, &evidence, sites.other)?;
-        if let Some(advice) = evidence.advice() {
-            writeln!(message, "help: {advice}")?;
+        match found {
+            Some((evidence, sites)) => self.of_sites(&evidence, sites),
+            None => rule_text(self.alloc, self.named, self.violation),
         }
+    }
+
+    /// What breaks a rule at these locations, in words.
+    fn of_sites<B: Evidence>(&self, evidence: &B, sites: Sites) -> Result<String, NoMemory> {
+        let mut message = sentence_at(self.alloc, self.named, evidence, sites.location)?;
+        push_note(&mut message, self.named, evidence, sites.other)?;
+        push_advice(&mut message, evidence)?;
         Ok(message)
     }
 
     /// What was found of a rule that is broken, by the names of the tree where it needs them.
     fn of_violation(&self, tree: &Tree) -> Result<String, NoMemory> {
         match self.violation {
-            Violation::Duplicate(duplicates) => self.of_evidence(duplicate_name(tree, duplicates)),
-            Violation::BadEntry(entry) => self.of_evidence(bad_entry(tree, entry)),
-            _ => {
-                let table = BuiltInClass::all(self.alloc)?;
-                let names = NameTables::new(self.alloc, tree, table.as_slice())?;
-                self.by_names(&names)
-            }
+            Violation::Duplicate(duplicates) => self.of_duplicate(tree, duplicates),
+            Violation::BadEntry(entry) => self.of_entry(tree, entry),
+            _ => self.of_names(tree),
         }
+    }
+
+    fn of_duplicate(
+        &self,
+        tree: &Tree,
+        duplicates: violations::Duplicate,
+    ) -> Result<String, NoMemory> {
+        self.of_evidence(duplicate_name(tree, duplicates))
+    }
+
+    fn of_entry(&self, tree: &Tree, entry: violations::BadEntry) -> Result<String, NoMemory> {
+        self.of_evidence(bad_entry(tree, entry))
+    }
+
+    /// What was found of a rule that is broken, by the names of the tree.
+    fn of_names(&self, tree: &Tree) -> Result<String, NoMemory> {
+        let table = BuiltInClass::all(self.alloc)?;
+        let names = NameTables::new(self.alloc, tree, table.as_slice())?;
+        self.by_names(&names)
     }
 
     fn by_names(&self, names: &NameTables) -> Result<String, NoMemory> {
         match self.violation {
-            Violation::Unknown(unknown) => self.of_evidence(unknown_name(names, unknown)),
-            Violation::CyclicBase { class } => self.of_evidence(cyclic_base(names, class)),
-            Violation::NotImplemented(absent) => self.of_evidence(not_implemented(names, absent)),
-            Violation::KindMismatch(kind_mismatch) => self.of_evidence(kind_mismatch_of(
-                names,
-                kind_mismatch,
-            )),
-            Violation::ExceededLimit(limit) => self.of_evidence(exceeded_limit(names, limit)),
+            Violation::Unknown(unknown) => self.of_unknown(names, unknown),
+            Violation::CyclicBase { class } => self.of_cyclic_base(names, class),
+            Violation::NotImplemented(absent) => self.of_absent(names, absent),
+            Violation::KindMismatch(mismatch) => self.of_kind_mismatch(names, mismatch),
+            Violation::ExceededLimit(limit) => self.of_limit(names, limit),
             _ => rule_text(self.alloc, self.named, self.violation),
         }
+    }
+
+    fn of_unknown(
+        &self,
+        names: &NameTables,
+        unknown: violations::Unknown,
+    ) -> Result<String, NoMemory> {
+        self.of_evidence(unknown_name(names, unknown))
+    }
+
+    fn of_cyclic_base(&self, names: &NameTables, class: usize) -> Result<String, NoMemory> {
+        self.of_evidence(cyclic_base(names, class))
+    }
+
+    fn of_absent(
+        &self,
+        names: &NameTables,
+        absent: violations::NotImplemented,
+    ) -> Result<String, NoMemory> {
+        self.of_evidence(not_implemented(names, absent))
+    }
+
+    fn of_kind_mismatch(
+        &self,
+        names: &NameTables,
+        mismatch: violations::KindMismatch,
+    ) -> Result<String, NoMemory> {
+        self.of_evidence(kind_mismatch_of(names, mismatch))
+    }
+
+    fn of_limit(
+        &self,
+        names: &NameTables,
+        limit: violations::ExceededLimit,
+    ) -> Result<String, NoMemory> {
+        self.of_evidence(exceeded_limit(names, limit))
     }
 }
 

@@ -3,7 +3,7 @@
 use crate::advice::{Advice, advice_on};
 use crate::references::{MemberKey, class_of, class_position, line_at, member_of, type_at};
 use crate::rule_evidence::{Evidence, Located};
-use crate::sentences::write_two;
+use crate::sentences::{write_one, write_two};
 use crate::sites::{Sites, key_of, listed_interface, located_method};
 use metadata::mentions::labels_of;
 use metadata::violations;
@@ -76,11 +76,8 @@ impl fmt::Display for Unknown<'_> {
     fn fmt<W: fmt::Write>(&self, f: &mut fmt::Formatter<W>) -> fmt::Result {
         match *self {
             Unknown::Extern(name) => {
-                let name = name.as_str();
-                write!(
-                    f,
-                    "`{name}` is no library: an extern is `mscorlib` or `cilvm`"
-                )
+                let after = "` is no library: an extern is `mscorlib` or `cilvm`";
+                write_one(f, "`", &name.as_str(), after)
             }
             Unknown::Class {
                 class,
@@ -89,22 +86,16 @@ impl fmt::Display for Unknown<'_> {
                 ..
             } => write_class(f, class, role, fault),
             Unknown::Label { label, .. } => {
-                let name = label.as_str();
-                write!(f, "no instruction of the method has the label `{name}`")
+                let before = "no instruction of the method has the label `";
+                write_one(f, before, &label.as_str(), "`")
             }
-            Unknown::Field { owner, field, near } => {
-                write_absent_field(f, owner, field)?;
-                write_near_field(f, near)
-            }
+            Unknown::Field { owner, field, near } => write_absent_field(f, owner, field, near),
             Unknown::Method {
                 owner,
                 method,
                 is_static,
                 near,
-            } => {
-                write_absent_method(f, owner, method, is_static)?;
-                write_near_method(f, near)
-            }
+            } => write_absent_method(f, owner, method, is_static, near),
         }
     }
 }
@@ -119,6 +110,7 @@ fn write_absent_field<W: fmt::Write>(
     f: &mut fmt::Formatter<W>,
     owner: ClassKey,
     field: FieldKey,
+    near: Option<&Field>,
 ) -> fmt::Result {
     let owner = ClassText(owner);
     let kind = kind_word(field.is_static);
@@ -127,7 +119,8 @@ fn write_absent_field<W: fmt::Write>(
     write!(
         f,
         "`{owner}` has no {kind} field `{declared} {name}`, declared or inherited"
-    )
+    )?;
+    write_near_field(f, near)
 }
 
 /// What a class lacks that has no such method, and what follows its name; a constructor is not inherited.
@@ -146,11 +139,13 @@ fn write_absent_method<W: fmt::Write>(
     owner: ClassKey,
     method: MethodKey,
     is_static: bool,
+    near: Option<&Method>,
 ) -> fmt::Result {
     let owner = ClassText(owner);
     let (kind, after) = lack_of(method, is_static);
     let method = MethodText(method);
-    write!(f, "`{owner}` has no {kind} `{method}`{after}")
+    write!(f, "`{owner}` has no {kind} `{method}`{after}")?;
+    write_near_method(f, near)
 }
 
 /// What stands before the name of a class that may not be named so, and after it.
