@@ -1,5 +1,5 @@
 -- Two tickets.
-use Rattle.std.proofs.Common.{◌≡◌, List, [], ◌∷◌, ◌++◌, sym, ap, ◌∙◌, subst, All}
+use Rattle.std.proofs.Common.{◌≡◌, List, [], ◌∷◌, sym, ap, ◌∙◌, subst, All}
 use Rattle.std.proofs.lemmas.List.Elements.{All-head, All-tail}
 use Rattle.shared_machine.specs.Counts.{Count}
 use Rattle.shared_machine.specs.Codes.{add}
@@ -18,12 +18,8 @@ did_counts (Did r) t u e h did agrees =
 did_counts NoMemory t u e h did agrees = tt
 did_counts Away t u e h did agrees = tt
 
-pub first_agrees : (h : List Entry) (all rest : List Count) (a b : Count) → all ≡ rest ++ b ∷ [] → rest ≡ a ∷ [] → All (AgreesWith h) all → AgreesWith h a
-first_agrees h all rest a b e f agree =
-    let is : all ≡ a ∷ b ∷ [] = e ∙ ap (λ (l : List Count). l ++ b ∷ []) f in
-    All-head (AgreesWith h) a (b ∷ []) (subst (All (AgreesWith h)) is agree)
+pub first_agrees : (h : List Entry) (all : List Count) (a b : Count) → all ≡ a ∷ b ∷ [] → All (AgreesWith h) all → AgreesWith h a
+first_agrees h all a b is agree = All-head (AgreesWith h) a (b ∷ []) (subst (All (AgreesWith h)) is agree)
 
-pub second_agrees : (h : List Entry) (all rest : List Count) (a b : Count) → all ≡ rest ++ b ∷ [] → rest ≡ a ∷ [] → All (AgreesWith h) all → AgreesWith h b
-second_agrees h all rest a b e f agree =
-    let is : all ≡ a ∷ b ∷ [] = e ∙ ap (λ (l : List Count). l ++ b ∷ []) f in
-    All-head (AgreesWith h) b [] (All-tail (AgreesWith h) a (b ∷ []) (subst (All (AgreesWith h)) is agree))
+pub second_agrees : (h : List Entry) (all : List Count) (a b : Count) → all ≡ a ∷ b ∷ [] → All (AgreesWith h) all → AgreesWith h b
+second_agrees h all a b is agree = All-head (AgreesWith h) b [] (All-tail (AgreesWith h) a (b ∷ []) (subst (All (AgreesWith h)) is agree))

@@ -6,5 +6,5 @@ mod epochs;
 mod library_calls;
 mod two_workers;
 
-pub use library_calls::{Call, LIMITS, SUM, call_result, calls};
+pub use library_calls::{Call, LIMITS, SUM, call_result, calls, fallible_call};
 pub use two_workers::{act_in_transition, act_many, finish_twice, keeps_the_mark, run_both};

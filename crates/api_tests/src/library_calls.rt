@@ -1,6 +1,6 @@
 //! The calls, each with what is expected of it.
 
-ghost use Rattle.std.specs.Prelude.{◌≡◌, map};
+ghost use Rattle.std.specs.Prelude.{◌≡◌, IfOk, OnErr, false, map};
 ghost use Rattle.cil_model.specs.Declarations.{built_ins};
 ghost use Rattle.name_tables.specs.BuiltInTable.{built_in_entry};
 
@@ -57,47 +57,41 @@ pub fn call_result(name: &'static str, is_as_expected: bool) -> Call
     }
 }
 
+/// A call by its name, and its outcome. One that fails counts as one with another outcome than expected.
+pub fn fallible_call<E: Drop>(name: &'static str, outcome: Result<bool, E>) -> Call
+    ensures name { result.name.now ≡ name.now }
+    ensures returned { IfOk outcome (λ is_as_expected. result.is_as_expected ≡ is_as_expected) }
+    ensures failed { OnErr outcome (result.is_as_expected ≡ false) }
+{
+    match outcome {
+        Ok(is_as_expected) => call_result(name, is_as_expected),
+        Err(_) => call_result(name, false),
+    }
+}
+
 /// Makes the calls. One that runs out of memory counts as one with another outcome.
 pub fn calls(threads: &(impl Threads + Sync), alloc: Global) -> [Call; 11] {
     [
-        call_result(
-            "a source that is too long",
-            reads_no_more(alloc).unwrap_or(false),
-        ),
-        call_result(
-            "a schedule as text",
-            writes_schedules(alloc).unwrap_or(false),
-        ),
+        fallible_call("a source that is too long", reads_no_more(alloc)),
+        fallible_call("a schedule as text", writes_schedules(alloc)),
         call_result("events among others", inserts_events(alloc)),
-        call_result(
-            "characters as text",
-            writes_characters(alloc).unwrap_or(false),
-        ),
-        call_result("names as keys", are_keys(alloc).unwrap_or(false)),
-        call_result(
+        fallible_call("characters as text", writes_characters(alloc)),
+        fallible_call("names as keys", are_keys(alloc)),
+        fallible_call(
             "a slot that another seat loads",
-            is_loaded_by_another(alloc).unwrap_or(false),
+            is_loaded_by_another(alloc),
         ),
-        call_result(
+        fallible_call(
             "a word through all stages",
-            takes_a_word_through_all_stages(alloc).unwrap_or(false),
+            takes_a_word_through_all_stages(alloc),
         ),
-        call_result(
-            "epochs",
-            threads_see_every_epoch(threads, alloc).unwrap_or(false),
-        ),
-        call_result(
-            "epochs in consecutive calls",
-            counts_in_transition(alloc).unwrap_or(false),
-        ),
+        fallible_call("epochs", threads_see_every_epoch(threads, alloc)),
+        fallible_call("epochs in consecutive calls", counts_in_transition(alloc)),
         call_result(
             "the sequential machine",
             runs_by_names(alloc).unwrap_or(false),
         ),
-        call_result(
-            "barriers in each phase",
-            barriers_match_expected(alloc).unwrap_or(false),
-        ),
+        fallible_call("barriers in each phase", barriers_match_expected(alloc)),
     ]
 }
 
@@ -237,14 +231,28 @@ fn takes_a_word_through_all_stages(alloc: Global) -> Result<bool, NoMemory> {
     let (retired, copier) = flip.retire(copier, 0, 0);
     let (last, _copier) = flip.advance(copier);
     Ok(
-        unfinished == Advance::Unfinished
-            && (copied == Copy::Copied && past == Copy::Past)
-            && (first == Advance::Posted && second == Advance::Posted)
-            && (late == Advance::Late && last == Advance::Last)
-            && (unretired == Retire::Late && late_again == Retire::Late)
-            && retired == Retire::Retired
+        are_copied((copied, past))
+            && are_posted((unfinished, first, late), (second, last))
+            && are_retired((unretired, late_again, retired))
             && (one, two) == (1, 2),
     )
+}
+
+/// Whether a word is copied, and then past that.
+fn are_copied(results: (Copy, Copy)) -> bool {
+    matches!(results, (Copy::Copied, Copy::Past))
+}
+
+/// Whether the first stage is posted between a try that comes too early and one that comes before the seat has taken it up, and the second one
+/// before a try at which there is none left.
+fn are_posted(first: (Advance, Advance, Advance), second: (Advance, Advance)) -> bool {
+    matches!(first, (Advance::Unfinished, Advance::Posted, Advance::Late))
+        && matches!(second, (Advance::Posted, Advance::Last))
+}
+
+/// Whether the first copy is retired at the third try.
+fn are_retired(results: (Retire, Retire, Retire)) -> bool {
+    matches!(results, (Retire::Late, Retire::Late, Retire::Retired))
 }
 
 /// Whether the test interpreter runs the sum, and prints its state. None where the sum has no tree or memory runs out.
@@ -267,22 +275,29 @@ fn is_run_with(alloc: Global, tree: &Tree, classes: &[BuiltInClass]) -> Result<b
 
 fn is_run_by_names(alloc: Global, names: &NameTables) -> Result<bool, NoMemory> {
     let names = OracleNames::new(alloc, &*names)?;
-    let opened = OracleMachine::new(alloc, &names, LIMITS)?;
-    match opened {
+    is_oracle_run(alloc, &names)
+}
+
+fn is_oracle_run(alloc: Global, names: &OracleNames) -> Result<bool, NoMemory> {
+    match OracleMachine::new(alloc, &*names, LIMITS)? {
         None => Ok(false),
-        Some(machine) => is_run_of_sum(alloc, machine),
+        Some(mut machine) => {
+            Ok(is_begin_shown(alloc, &machine)? && prints_the_sum(&mut machine)?)
+        }
     }
 }
 
-fn is_run_of_sum(alloc: Global, mut machine: OracleMachine<'_>) -> Result<bool, NoMemory> {
+/// Whether the state before the first step is written as it is.
+fn is_begin_shown(alloc: Global, machine: &OracleMachine<'_>) -> Result<bool, NoMemory> {
     let shown = format!(in alloc; "{machine}")?;
+    Ok(shown.as_str() == "thread 0: 10 steps left, 0: ldc.i4 2 []\n")
+}
+
+/// Whether the last of five steps ends the thread, and the sum is printed.
+fn prints_the_sum(machine: &mut OracleMachine<'_>) -> Result<bool, NoMemory> {
     let mut last = None;
     for _ in 0..5 {
         last = machine.step(0, false)?;
     }
-    Ok(
-        shown.as_str() == "thread 0: 10 steps left, 0: ldc.i4 2 []\n"
-            && last == Some(Report::Ended(End::Done))
-            && machine.console() == b"5\n".as_slice(),
-    )
+    Ok(last == Some(Report::Ended(End::Done)) && machine.console() == b"5\n".as_slice())
 }

@@ -1,6 +1,6 @@
 //! Two workers of a shared machine, in threads of their own.
 
-ghost use Rattle.std.specs.Prelude.{◌≡◌, IfOk, IfSome, None};
+ghost use Rattle.std.specs.Prelude.{◌≡◌, ◌∷◌, [], IfOk, IfSome, None};
 ghost use Rattle.shared_machine.specs.Codes.{add};
 ghost use Rattle.shared_machine.specs.Histories.{count_of, events_of, reports_of};
 ghost use Rattle.shared_machine.specs.Worlds.{AgreesWith, HasRun, IfDid, add_event, fresh};
@@ -52,13 +52,24 @@ fn finish_both<M: Initial>(
     ensures one { IfOk result (λ end. IfSome end (λ o. AgreesWith o.history.entries one)) }
     ensures other { IfOk result (λ end. IfSome end (λ o. AgreesWith o.history.entries other)) }
 {
-    let mut tickets = Vec::new(alloc);
-    tickets.push(one)?;
-    tickets.push(other)?;
-    match shared.finish(tickets) {
+    match shared.finish(both(alloc, one, other)?) {
         Ok(outcome) => Ok(Some(outcome)),
         Err(_) => Ok(None),
     }
+}
+
+/// Two tickets in a list.
+fn both<M: Initial>(
+    alloc: Global,
+    one: Ticket<M>,
+    other: Ticket<M>,
+) -> Result<Vec<Ticket<M>>, NoMemory>
+    ensures { IfOk result (λ tickets. tickets.items ≡ one ∷ other ∷ []) }
+{
+    let mut tickets = Vec::new(alloc);
+    tickets.push(one)?;
+    tickets.push(other)?;
+    Ok(tickets)
 }
 
 /// Two threads act once each, and the run ends. Whatever the schedule, each worker's entries in the history are those that its ticket had
@@ -134,14 +145,26 @@ pub fn act_many<M: Initial + Send + Sync, R: Threads + Wait + Sync>(
     let Some((shared, one, other)) = open_both::<M>(alloc, blank, core)? else {
         return Ok(None);
     };
-    let lock = &shared;
-    let (one, other) = join(
-        rt,
-        move || act_often(rt, alloc, lock, one, events.0, times),
-        move || act_often(rt, alloc, lock, other, events.1, times),
-    );
+    let (one, other) = act_often_both(rt, alloc, &shared, one, other, events, times);
     mark(rt, &shared);
     finish_both(alloc, shared, one, other)
+}
+
+/// Two threads act often, each with its own event and ticket.
+fn act_often_both<M: Initial + Send + Sync, R: Threads + Wait + Sync>(
+    rt: &R,
+    alloc: Global,
+    shared: &Shared<M>,
+    one: Ticket<M>,
+    other: Ticket<M>,
+    events: (Event, Event),
+    times: u32,
+) -> (Ticket<M>, Ticket<M>) {
+    join(
+        rt,
+        move || act_often(rt, alloc, shared, one, events.0, times),
+        move || act_often(rt, alloc, shared, other, events.1, times),
+    )
 }
 
 /// Worker 1 has the collector do an event, and then worker 0 has thread 0 step. The run ends with their tickets in this order or in the other
@@ -206,10 +229,7 @@ fn finish_again<M: Initial>(
         mut tickets,
     } = unfinished;
     tickets.push(ticket)?;
-    match shared.finish(tickets) {
-        Ok(outcome) => Ok(Some(outcome)),
-        Err(_) => Ok(None),
-    }
+    Ok(shared.finish(tickets).ok())
 }
 
 /// Whether the stop mark is not set at first nor by an event, and is set by `stop`.

@@ -3,7 +3,7 @@
 use crate::records::NO_LIMITS;
 use commands::{Order, Part, Run, RunKind};
 use driver::{Outputs, WriterOut, drive};
-use run_api_tests::{Call, LIMITS, SUM, calls, run_calls};
+use run_api_tests::{Call, LIMITS, RunCalls, SUM, call_result, calls};
 use std::alloc::Global;
 use std::io;
 use std::io::{Cursor, Write};
@@ -17,18 +17,37 @@ pub fn try_calls(
     threads: &(impl Threads + Wait + Clock + Sync),
 ) -> io::Result<usize> {
     let made = calls(threads, rt.alloc());
-    let runs = run_calls(threads, rt.alloc());
+    let runs = RunCalls::new(threads, rt.alloc());
+    let mut count = made.len();
     let mut differing = report_all(rt, &made)?;
-    differing = differing.saturating_add(report_all(rt, &runs)?);
-    let reported = reports_of_outputs(threads, rt.alloc());
-    differing = differing.saturating_add(write_report(rt, "outputs that fail", reported)?);
-    let cut = leaves_a_beginning(threads, rt.alloc());
-    differing = differing.saturating_add(write_report(rt, "a picture that is cut", cut)?);
-    let ended = ends_at_a_cut_console(threads, rt.alloc());
-    differing = differing.saturating_add(write_report(rt, "a console that is cut", ended)?);
-    let count = made.len().saturating_add(runs.len()).saturating_add(3);
-    println!(rt; "calls: {count} calls, {differing} differ")?;
+    for group in runs.groups() {
+        count = count.saturating_add(group.len());
+        differing = differing.saturating_add(report_all(rt, group)?);
+    }
+    differing = differing.saturating_add(try_cut_outputs(rt, threads)?);
+    println!(rt;
+        "calls: {} calls, {differing} differ",
+        count.saturating_add(3)
+    )?;
     Ok(differing)
+}
+
+/// Makes three calls with outputs that take less than is written, prints which have an unexpected outcome, and returns how many these are.
+fn try_cut_outputs(
+    rt: &HostRuntime,
+    threads: &(impl Threads + Wait + Clock + Sync),
+) -> io::Result<usize> {
+    let reported = reports_of_outputs(threads, rt.alloc());
+    let cut = leaves_a_beginning(threads, rt.alloc());
+    let ended = ends_at_a_cut_console(threads, rt.alloc());
+    report_all(
+        rt,
+        &[
+            call_result("outputs that fail", reported),
+            call_result("a picture that is cut", cut),
+            call_result("a console that is cut", ended),
+        ],
+    )
 }
 
 /// Prints which of these calls have an unexpected outcome, and returns how many they are.

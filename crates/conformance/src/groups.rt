@@ -21,6 +21,16 @@ pub fn try_group(
     group: &str,
 ) -> io::Result<usize> {
     let table = fs::read_to_string(rt, format!(in rt.alloc(); "{group}.txt")?.as_str())?;
+    try_table(rt, threads, group, table.as_str())
+}
+
+/// Runs the cases of a group's text.
+fn try_table(
+    rt: &HostRuntime,
+    threads: &(impl Threads + Wait + Clock + Sync),
+    group: &str,
+    table: &str,
+) -> io::Result<usize> {
     let mut cases = 0usize;
     let mut differing = 0usize;
     for block in table.split(HEAD).skip(1) {
@@ -80,8 +90,9 @@ fn compare(
     if actual == MEMORY {
         return Err(io::Error::from(ErrorKind::OutOfMemory));
     }
-    println!(rt; "{name}: differs. The outcome is")?;
-    println!(rt; "{}", str::from_utf8(actual).unwrap_or("no text"))?;
-    println!(rt; "the expected outcome is\n{expected_outcome}")?;
+    let actual = str::from_utf8(actual).unwrap_or("no text");
+    println!(rt;
+        "{name}: differs. The outcome is\n{actual}\nthe expected outcome is\n{expected_outcome}"
+    )?;
     Ok(false)
 }

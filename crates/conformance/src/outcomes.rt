@@ -42,18 +42,21 @@ pub fn outcome(
             &with_limits(order, case.limits),
             &mut out,
         )?,
-        Err(LineFault::Help(text)) => {
-            out.extend_from_slice(text.as_bytes())?;
-            add_end(&mut out, &[], 0)?;
-        }
-        Err(LineFault::Version(text)) => {
-            out.extend_from_slice(text.as_bytes())?;
-            add_end(&mut out, &[], 0)?;
-        }
-        Err(LineFault::Bad(text)) => add_end(&mut out, text.as_bytes(), 2)?,
-        Err(LineFault::Memory) => add_failure(alloc, Failure::Memory, "", &mut out)?,
+        Err(fault) => add_line_fault(alloc, fault, &mut out)?,
     }
     Ok(out)
+}
+
+/// Adds what is printed for a line that is no command.
+fn add_line_fault(alloc: Global, fault: LineFault, out: &mut Vec<u8>) -> io::Result<()> {
+    match fault {
+        LineFault::Help(text) | LineFault::Version(text) => {
+            out.extend_from_slice(text.as_bytes())?;
+            add_end(out, &[], 0)
+        }
+        LineFault::Bad(text) => add_end(out, text.as_bytes(), 2),
+        LineFault::Memory => add_failure(alloc, Failure::Memory, "", out),
+    }
 }
 
 /// The command with other limits, where it is a run and some are given.
@@ -127,19 +130,31 @@ fn carry_out(
         Some(order) => order,
         None => return add_malformed(rt.alloc(), order, out),
     };
-    let schedule = files.schedule.as_slice();
-    let record = add_driven(rt, threads, &order, files.source.as_slice(), schedule, out)?;
+    carry_out_on(rt, threads, case, &order, &files, out)
+}
+
+/// Carries out a command on these files, and adds its outcome.
+fn carry_out_on(
+    rt: &HostRuntime,
+    threads: &(impl Threads + Wait + Clock + Sync),
+    case: &Case<'_>,
+    order: &Order<'_>,
+    files: &Files,
+    out: &mut Vec<u8>,
+) -> io::Result<()> {
     let source = files.source.as_slice();
-    add_record(rt, threads, case, &order, source, record.as_ref(), out)?;
+    let schedule = files.schedule.as_slice();
+    let record = add_driven(rt, threads, order, source, schedule, out)?;
+    add_record(rt, threads, case, order, source, record.as_ref(), out)?;
     if case.expected_outcome.contains("\n--- answer ") {
-        let answer = answer(rt.alloc(), &order, &files)?;
+        let answer = answer(rt.alloc(), order, files)?;
         writeln!(out, "--- answer {answer}")?;
     }
     if case.expected_outcome.contains("\n--- reports") {
         let with_sizes = case.expected_outcome.contains("\n--- sizes ");
-        add_run(threads, rt.alloc(), &order, &files, with_sizes, out)?;
+        add_run(threads, rt.alloc(), order, files, with_sizes, out)?;
     }
-    add_differences(rt.alloc(), &order, &files, out)
+    add_differences(rt.alloc(), order, files, out)
 }
 
 /// The command with what the `.run` file of the case says, where it has one. None where it is not the text of one.

@@ -71,11 +71,16 @@ fn add_replay(
     let mut replayed = Vec::new(rt.alloc());
     let schedule = record.schedule.as_bytes();
     add_driven(rt, threads, &replay, source, schedule, &mut replayed)?;
-    if out.as_slice().starts_with(replayed.as_slice()) {
+    add_replayed(replayed.as_slice(), out)
+}
+
+/// Adds that the outcome of a replay is the outcome so far, or that it is another one.
+fn add_replayed(replayed: &[u8], out: &mut Vec<u8>) -> io::Result<()> {
+    if out.as_slice().starts_with(replayed) {
         out.extend_from_slice(b"--- replayed\n")?;
     } else {
         out.extend_from_slice(b"--- replayed otherwise\n")?;
-        out.extend_from_slice(replayed.as_slice())?;
+        out.extend_from_slice(replayed)?;
     }
     Ok(())
 }

@@ -7,6 +7,7 @@ use commands::{Order, RunKind};
 use driver::{Failure, Run, WriterOut, report, run_events};
 use machine_comparison::{difference, difference_by_chance, difference_by_moves};
 use schedule_text::read_schedule;
+use source_runs::Outcome;
 use std::alloc::Global;
 use std::io;
 use std::io::Write;
@@ -136,6 +137,12 @@ fn add_events(
         items.as_slice(),
         most_printed_of(order),
     )?;
+    add_outcome(&outcome, with_sizes, out)?;
+    Ok(())
+}
+
+/// Adds the reports of a run, the words in use after it, and on request the sizes of the spaces.
+fn add_outcome(outcome: &Outcome, with_sizes: bool, out: &mut Vec<u8>) -> io::Result<()> {
     add_reports(outcome.history.runs(), out)?;
     add_words("used", outcome.machine.used(), out)?;
     if with_sizes {
@@ -179,11 +186,20 @@ fn add_words(name: &str, (old, new): (u32, u32), out: &mut Vec<u8>) -> io::Resul
 
 /// Adds the letter of a report, or the end of a thread in brackets.
 fn add_report(report: Report, out: &mut Vec<u8>) -> io::Result<()> {
-    match (letter_of(report), report) {
-        (Some(letter), _) => write!(out, " {letter}"),
-        (None, Report::Ended(End::Fault(fault))) => write!(out, " [{fault:?}]"),
-        (None, Report::Ended(end)) => write!(out, " [{end:?}]"),
-        _ => write!(out, " [{report:?}]"),
+    if let Report::Ended(end) = report {
+        return add_thread_end(end, out);
+    }
+    match letter_of(report) {
+        Some(letter) => write!(out, " {letter}"),
+        None => write!(out, " [{report:?}]"),
+    }
+}
+
+/// Adds the end of a thread in brackets.
+fn add_thread_end(end: End, out: &mut Vec<u8>) -> io::Result<()> {
+    match end {
+        End::Fault(fault) => write!(out, " [{fault:?}]"),
+        _ => write!(out, " [{end:?}]"),
     }
 }
 

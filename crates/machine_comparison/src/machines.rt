@@ -15,7 +15,7 @@ use name_tables::built_in::BuiltInClass;
 use name_tables::lookups::NameTables;
 use schedule_text::{Item, read_schedule};
 use source_runs::{Failure, Machine, accept};
-use std::alloc::Global;
+use std::alloc::{AllocError, Global};
 use std::iter::repeat_n;
 
 /// What the machine reported and printed in a run, up to the first event after which the test interpreter differs.
@@ -145,8 +145,18 @@ fn compare_with(
     items: &[Item],
 ) -> Result<Comparison, Failure> {
     let names = OracleNames::new(alloc, &*names)?;
-    let opened = OracleMachine::new(alloc, &names, limits)?;
-    match opened {
+    compare_oracle(alloc, machine, &names, limits, items)
+}
+
+/// The same of a machine, and of the names that the test interpreter has.
+fn compare_oracle(
+    alloc: Global,
+    machine: &mut Machine,
+    names: &OracleNames,
+    limits: Limits,
+    items: &[Item],
+) -> Result<Comparison, Failure> {
+    match OracleMachine::new(alloc, &*names, limits)? {
         None => no_entry_point(alloc),
         Some(mut oracle) => Ok(run(alloc, machine, &mut oracle, items)?),
     }
@@ -172,24 +182,50 @@ fn run(
     items: &[Item],
 ) -> Result<Comparison, NoMemory> {
     let mut reports = Vec::new(alloc);
-    let mut difference = None;
-    for event in items
-        .iter()
-        .flat_map(|item| repeat_n(item.event, item.count))
-    {
-        let actual = machine.step(alloc, event)?;
-        reports.push(actual)?;
-        let expected = expected_report(oracle, event, actual)?;
-        if expected != Some(actual) || !are_alike(machine, oracle) {
-            difference = Some(report_of(alloc, reports.len(), actual, expected, oracle)?);
-            break;
-        }
-    }
+    let difference = first_difference(alloc, machine, oracle, items, &mut reports)?;
     Ok(Comparison {
         reports,
         printed: Vec::from_slice(alloc, machine.console())?,
         difference,
     })
+}
+
+/// Does the events on both machines, up to the first difference, which is returned, and adds what the machine reports.
+fn first_difference(
+    alloc: Global,
+    machine: &mut Machine,
+    oracle: &mut OracleMachine,
+    items: &[Item],
+    reports: &mut Vec<Report>,
+) -> Result<Option<String>, NoMemory> {
+    for event in items
+        .iter()
+        .flat_map(|item| repeat_n(item.event, item.count))
+    {
+        let found = step_both(alloc, machine, oracle, event, reports)?;
+        if found.is_some() {
+            return Ok(found);
+        }
+    }
+    Ok(None)
+}
+
+/// Does an event on both machines, and adds what the machine reports. Returns the outcome where they differ.
+fn step_both(
+    alloc: Global,
+    machine: &mut Machine,
+    oracle: &mut OracleMachine,
+    event: Event,
+    reports: &mut Vec<Report>,
+) -> Result<Option<String>, NoMemory> {
+    let actual = machine.step(alloc, event)?;
+    reports.push(actual)?;
+    let expected = expected_report(oracle, event, actual)?;
+    if expected == Some(actual) && are_alike(machine, oracle) {
+        return Ok(None);
+    }
+    let number = reports.len();
+    Ok(Some(report_of(alloc, number, actual, expected, oracle)?))
 }
 
 /// The outcome of an event. Where both reports are the same, the machines differ in what was printed or in the states of the threads.
@@ -199,17 +235,34 @@ fn report_of(
     actual: Report,
     expected: Option<Report>,
     oracle: &OracleMachine,
-) -> Result<String, NoMemory> {
-    Ok(match expected {
-        None => format!(in alloc;
-            "event {number}: {actual:?}, and the test interpreter is stuck\n{oracle}"
-        )?,
-        Some(expected) => {
-            format!(in alloc;
-                "event {number}: {actual:?}, and {expected:?} of the test interpreter\n{oracle}"
-            )?
-        }
-    })
+) -> Result<String, AllocError> {
+    match expected {
+        None => stuck_report(alloc, number, actual, oracle),
+        Some(expected) => other_report(alloc, number, actual, expected, oracle),
+    }
+}
+
+/// The outcome of an event at which the test interpreter is stuck.
+fn stuck_report(
+    alloc: Global,
+    number: usize,
+    actual: Report,
+    oracle: &OracleMachine,
+) -> Result<String, AllocError> {
+    format!(in alloc; "event {number}: {actual:?}, and the test interpreter is stuck\n{oracle}")
+}
+
+/// The outcome of an event by the reports of both machines.
+fn other_report(
+    alloc: Global,
+    number: usize,
+    actual: Report,
+    expected: Report,
+    oracle: &OracleMachine,
+) -> Result<String, AllocError> {
+    format!(in alloc;
+        "event {number}: {actual:?}, and {expected:?} of the test interpreter\n{oracle}"
+    )
 }
 
 /// The report of a step in which a birth is refused.
@@ -243,8 +296,17 @@ fn are_alike(machine: &Machine, oracle: &OracleMachine) -> bool {
     machine.console() == oracle.console()
         && machine.live() == oracle.live()
         && machine.started() == oracle.started()
-        && (0..MOST_THREADS as u8).all(|thread| {
-            machine.end_of(thread) == oracle.end_of(thread)
-                && machine.is_live(thread) == oracle.is_live(thread)
-        })
+        && have_same_threads(machine, oracle)
+}
+
+/// Whether both agree on which threads are live, and how the others ended.
+fn have_same_threads(machine: &Machine, oracle: &OracleMachine) -> bool {
+    for thread in 0..MOST_THREADS as u8 {
+        if machine.end_of(thread) != oracle.end_of(thread)
+            || machine.is_live(thread) != oracle.is_live(thread)
+        {
+            return false;
+        }
+    }
+    true
 }

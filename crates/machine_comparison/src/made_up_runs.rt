@@ -73,11 +73,17 @@ pub fn try_programs(rt: &HostRuntime) -> Result<usize, Failure> {
     };
     let text = fs::read_to_string(rt, "grammar.txt")?;
     let grammar = Grammar::of(rt.alloc(), text.as_str())?;
-    for number in 0..PROGRAMS {
-        try_program(rt, &grammar, number, &mut tally)?;
-    }
-    write_report(rt, &tally)?;
+    try_all(rt, &grammar, &mut tally)?;
     Ok(tally.differing)
+}
+
+/// Runs all programs of a grammar, and prints their outcomes.
+fn try_all(rt: &HostRuntime, grammar: &Grammar, tally: &mut Tally) -> Result<(), Failure> {
+    for number in 0..PROGRAMS {
+        try_program(rt, grammar, number, tally)?;
+    }
+    write_report(rt, tally)?;
+    Ok(())
 }
 
 /// The same as `difference` by a generated schedule of events of all kinds: the same one for each source.
@@ -102,20 +108,38 @@ fn try_program(
     let limits = limits_among(&mut random);
     let items = items_among(rt.alloc(), &mut random)?;
     match compare(rt.alloc(), source.as_bytes(), limits, items.as_slice()) {
-        Ok(comparison) => {
-            tally.add(&comparison)?;
-            if let Some(difference) = &comparison.difference {
-                println!(rt; "program {number} differs at {difference}\n{limits:?}\n{source}")?;
-            }
-            Ok(())
-        }
-        Err(Failure::Refused(error)) => {
-            println!(rt; "program {number} is refused by {error}\n{source}")?;
-            tally.differing = tally.differing.saturating_add(1);
-            Ok(())
-        }
+        Ok(comparison) => add_program(rt, tally, number, limits, source.as_str(), &comparison),
+        Err(Failure::Refused(error)) => Ok(add_refused(rt, tally, number, source.as_str(), error)?),
         Err(failure) => Err(failure),
     }
+}
+
+/// Adds the outcome of a program, and prints it where both machines differ.
+fn add_program(
+    rt: &HostRuntime,
+    tally: &mut Tally,
+    number: u64,
+    limits: Limits,
+    source: &str,
+    comparison: &Comparison,
+) -> Result<(), Failure> {
+    tally.add(comparison)?;
+    if let Some(difference) = &comparison.difference {
+        println!(rt; "program {number} differs at {difference}\n{limits:?}\n{source}")?;
+    }
+    Ok(())
+}
+
+/// Adds a program that is refused, and prints it.
+fn add_refused(
+    rt: &HostRuntime,
+    tally: &mut Tally,
+    number: u64,
+    source: &str,
+    error: u16,
+) -> io::Result<()> {
+    tally.differing = tally.differing.saturating_add(1);
+    println!(rt; "program {number} is refused by {error}\n{source}")
 }
 
 /// Limits so small that they are often met.

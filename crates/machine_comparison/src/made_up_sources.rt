@@ -330,6 +330,14 @@ impl<'g> Draft<'g> {
         self.write_method("<int> ret }")
     }
 
+    /// Writes all classes of a program.
+    fn write_program(&mut self) -> Result<(), NoMemory> {
+        self.write_fixed("head", 100)?;
+        self.write_animals()?;
+        self.write_main_class()?;
+        self.write_thread_class()
+    }
+
     fn write_main_class(&mut self) -> Result<(), NoMemory> {
         self.write_fixed("main-class", 100)?;
         self.put(".method public static class K0 pick(class K0, int32) cil managed")?;
@@ -365,9 +373,6 @@ pub fn source_of<'g>(
         classes,
         is_method: false,
     };
-    draft.write_fixed("head", 100)?;
-    draft.write_animals()?;
-    draft.write_main_class()?;
-    draft.write_thread_class()?;
+    draft.write_program()?;
     Ok(draft.text)
 }

@@ -3,6 +3,7 @@
 use crate::machines::{Comparison, compare, difference_in};
 use cil_model::events::Event;
 use cil_model::limits::Limits;
+use cil_model::memory::NoMemory;
 use cil_model::reports::Report;
 use schedule_text::{Item, ScheduleError, insert_at, read_schedule};
 use source_runs::{Failure, Machine, accept};
@@ -102,8 +103,8 @@ fn difference_by_neighbors(
         if is_repeated(events, index) {
             continue;
         }
-        let schedule = move_event(alloc, events, index, index.saturating_sub(1))?;
-        let found = difference_in(compare(alloc, source, limits, schedule.as_slice()))?;
+        let before = index.saturating_sub(1);
+        let found = difference_by_move(alloc, source, limits, events, index, before)?;
         if found.is_some() {
             return Ok(found);
         }
@@ -165,13 +166,25 @@ fn difference_at(
     start: usize,
     before: usize,
 ) -> Result<Option<String>, Failure> {
-    let earlier = move_event(alloc, events, start, before)?;
-    let found = difference_in(compare(alloc, source, limits, earlier.as_slice()))?;
+    let found = difference_by_move(alloc, source, limits, events, start, before)?;
     if found.is_some() {
         return Ok(found);
     }
-    let later = move_event(alloc, events, start, before.saturating_add(1))?;
-    difference_in(compare(alloc, source, limits, later.as_slice()))
+    let after = before.saturating_add(1);
+    difference_by_move(alloc, source, limits, events, start, after)
+}
+
+/// Compares with the event at an index moved: `to` counts among the others.
+fn difference_by_move(
+    alloc: Global,
+    source: &[u8],
+    limits: Limits,
+    events: &[Item],
+    from: usize,
+    to: usize,
+) -> Result<Option<String>, Failure> {
+    let schedule = move_event(alloc, events, from, to)?;
+    difference_in(compare(alloc, source, limits, schedule.as_slice()))
 }
 
 /// The indexes of the events in which a thread is started.
@@ -182,20 +195,24 @@ fn starting_steps(
     events: &[Item],
 ) -> Result<Vec<usize>, Failure> {
     let mut machine = Machine::new(alloc, accept(alloc, source)?, limits)?;
+    Ok(starts_in(alloc, &mut machine, events)?)
+}
+
+/// The indexes of the events in which a machine starts a thread.
+fn starts_in(
+    alloc: Global,
+    machine: &mut Machine,
+    events: &[Item],
+) -> Result<Vec<usize>, NoMemory> {
     let mut starts = Vec::new(alloc);
     for (index, item) in events.iter().enumerate() {
         let started = machine.started();
         machine.step(alloc, item.event)?;
         if machine.started() > started {
-            note(&mut starts, index)?;
+            starts.push(index)?;
         }
     }
     Ok(starts)
-}
-
-fn note(starts: &mut Vec<usize>, index: usize) -> Result<(), AllocError> {
-    starts.push(index)?;
-    Ok(())
 }
 
 /// Inserts a cycle at each index of the sum's schedule, and returns how many of the schedules do not print the sum, have another number of
@@ -205,8 +222,7 @@ pub fn try_insertions(rt: &HostRuntime) -> Result<usize, Failure> {
     let cycle = read_schedule(rt.alloc(), CYCLE)?;
     let mut differing = 0usize;
     for index in 0..=STEPS {
-        let comparison = test_with_cycle(rt.alloc(), source.as_slice(), cycle.as_slice(), index)?;
-        if !is_sum_beside_cycle(&comparison) {
+        if !prints_the_sum(rt.alloc(), source.as_slice(), cycle.as_slice(), index)? {
             println!(rt; "a cycle at index {index}: differs")?;
             differing = differing.saturating_add(1);
         }
@@ -218,13 +234,13 @@ pub fn try_insertions(rt: &HostRuntime) -> Result<usize, Failure> {
     Ok(differing)
 }
 
-/// The run of the sum with a cycle at an index.
-fn test_with_cycle(
+/// Whether the run of the sum with a cycle at an index prints it, and the collector does its whole cycle.
+fn prints_the_sum(
     alloc: Global,
     source: &[u8],
     cycle: &[Item],
     index: usize,
-) -> Result<Comparison, Failure> {
+) -> Result<bool, Failure> {
     let limits = Limits {
         words: 64,
         max_words: 64,
@@ -236,7 +252,8 @@ fn test_with_cycle(
         count: STEPS,
     }];
     let items = insert_at(alloc, &steps, index, cycle)?;
-    compare(alloc, source, limits, items.as_slice())
+    let comparison = compare(alloc, source, limits, items.as_slice())?;
+    Ok(is_sum_beside_cycle(&comparison))
 }
 
 /// Whether a run printed the sum, and the collector did its whole cycle, with no difference between the machines.

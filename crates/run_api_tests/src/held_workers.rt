@@ -7,7 +7,7 @@ use cil_model::memory::NoMemory;
 use cil_model::phases::Phase;
 use cil_model::reports::Report;
 use cil_model::stops::StopAt;
-use source_runs::{Failure, Gate, Machine, Run, open, run_threads};
+use source_runs::{Failure, Gate, Machine, Outcome, Run, open, run_threads};
 use std::alloc::Global;
 use std::sync::Wait;
 use std::sync::atomic::AtomicU64;
@@ -121,6 +121,16 @@ impl Gate for HoldsOne {
     }
 }
 
+/// The outcome of two threads that two workers run, one of which is held.
+fn run_held(
+    threads: &(impl Threads + Wait + Sync),
+    alloc: Global,
+    gate: &HoldsOne,
+) -> Result<Outcome, Failure> {
+    let source = ROUND.as_bytes();
+    run_threads(threads, alloc, source, LOOPING, 2, StopAt::End, None, gate)
+}
+
 /// Whether a second worker continues while the first one, which drives the collector, is held at a pass: the history has steps of its thread
 /// between two events of the other.
 pub(crate) fn continues_without_the_first(
@@ -128,16 +138,7 @@ pub(crate) fn continues_without_the_first(
     alloc: Global,
 ) -> Result<bool, Failure> {
     let gate = HoldsOne::new(0, HELD_PASSES.start);
-    let outcome = run_threads(
-        threads,
-        alloc,
-        ROUND.as_bytes(),
-        LOOPING,
-        2,
-        StopAt::End,
-        None,
-        &gate,
-    )?;
+    let outcome = run_held(threads, alloc, &gate)?;
     Ok(gate.late.load(SeqCst) == 0 && has_steps_between(outcome.history.runs(), 0))
 }
 
@@ -190,15 +191,15 @@ impl Meanwhile {
     }
 }
 
-/// How many runs of equal events there were when the held worker was released, where the other one continued for long meanwhile and the
+/// The runs of equal events that there were when the held worker was released, where the other one continued for long meanwhile and the
 /// collector began to wait, to the end of that time.
-fn let_go(runs: &[Run], held: u8) -> Option<usize> {
+fn let_go(runs: &[Run], held: u8) -> Option<&[Run]> {
     let mut meanwhile = NOTHING;
     for (index, run) in runs.iter().enumerate() {
         if run.entry.worker != held {
             meanwhile = meanwhile.and(run);
         } else if meanwhile.is_long() {
-            return meanwhile.waits_to_its_end().then_some(index);
+            return meanwhile.waits_to_its_end().then_some(&runs[..index]);
         } else {
             meanwhile = NOTHING;
         }
@@ -219,17 +220,19 @@ fn step_often(
     Ok(())
 }
 
-/// The phase that is posted after the first `count` runs of equal events. The machine is at their beginning.
-fn posted_after(
-    alloc: Global,
-    mut machine: Machine,
-    runs: &[Run],
-    count: usize,
-) -> Result<Phase, NoMemory> {
-    for run in runs.iter().take(count) {
-        step_often(alloc, &mut machine, run.entry.event, run.times)?;
-    }
+/// The phase that is posted after these runs of equal events of the two threads.
+fn posted_after(alloc: Global, runs: &[Run]) -> Result<Phase, Failure> {
+    let (mut machine, _) = open(alloc, ROUND.as_bytes(), LOOPING, b"")?;
+    step_all(alloc, &mut machine, runs)?;
     Ok(machine.posted_phase())
+}
+
+/// Does the events of these runs.
+fn step_all(alloc: Global, machine: &mut Machine, runs: &[Run]) -> Result<(), NoMemory> {
+    for run in runs {
+        step_often(alloc, machine, run.entry.event, run.times)?;
+    }
+    Ok(())
 }
 
 /// Runs two threads by two workers, one of which is held at a pass, and returns the phase for whose acknowledgement the collector waited
@@ -241,22 +244,10 @@ fn phase_of_held(
     pass: u32,
 ) -> Result<Option<Phase>, Failure> {
     let gate = HoldsOne::new(held, pass);
-    let outcome = run_threads(
-        threads,
-        alloc,
-        ROUND.as_bytes(),
-        LOOPING,
-        2,
-        StopAt::End,
-        None,
-        &gate,
-    )?;
+    let outcome = run_held(threads, alloc, &gate)?;
     let runs = outcome.history.runs();
     match let_go(runs, held) {
-        Some(count) if gate.late.load(SeqCst) == 0 => {
-            let (machine, _) = open(alloc, ROUND.as_bytes(), LOOPING, b"")?;
-            Ok(Some(posted_after(alloc, machine, runs, count)?))
-        }
+        Some(before) if gate.late.load(SeqCst) == 0 => Ok(Some(posted_after(alloc, before)?)),
         _ => Ok(None),
     }
 }

@@ -6,5 +6,5 @@ mod library_runs;
 mod loan_runs;
 mod worker_runs;
 
-pub use api_tests::{Call, LIMITS, SUM, calls};
-pub use library_runs::run_calls;
+pub use api_tests::{Call, LIMITS, SUM, call_result, calls};
+pub use library_runs::RunCalls;

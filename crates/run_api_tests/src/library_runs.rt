@@ -9,8 +9,8 @@ use crate::worker_runs::{
     stops_at_a_deadlock,
 };
 use api_tests::{
-    Call, LIMITS, SUM, act_in_transition, act_many, call_result, finish_twice, keeps_the_mark,
-    run_both,
+    Call, LIMITS, SUM, act_in_transition, act_many, call_result, fallible_call, finish_twice,
+    keeps_the_mark, run_both,
 };
 use cil_model::events::Event;
 use cil_model::limits::Limits;
@@ -26,105 +26,118 @@ use std::marker::Brand;
 use std::sync::Wait;
 use std::thread::Threads;
 
-/// Makes the calls. One that runs out of memory counts as one with another outcome.
-pub fn run_calls(threads: &(impl Threads + Wait + Sync), alloc: Global) -> [Call; 25] {
+/// The calls, each with its outcome.
+#[derive(Clone, Copy)]
+pub struct RunCalls {
+    machines: [Call; 7],
+    loans: [Call; 7],
+    workers: [Call; 11],
+}
+
+impl RunCalls {
+    /// Makes the calls. One that runs out of memory counts as one with another outcome.
+    pub fn new(threads: &(impl Threads + Wait + Sync), alloc: Global) -> RunCalls {
+        RunCalls {
+            machines: machine_calls(threads, alloc),
+            loans: loan_calls(threads, alloc),
+            workers: worker_calls(threads, alloc),
+        }
+    }
+
+    /// All calls, in groups.
+    pub fn groups(&self) -> [&[Call]; 3] {
+        [
+            self.machines.as_slice(),
+            self.loans.as_slice(),
+            self.workers.as_slice(),
+        ]
+    }
+}
+
+/// Calls on readers that fail, on histories, and on a machine that two workers share.
+fn machine_calls(threads: &(impl Threads + Wait + Sync), alloc: Global) -> [Call; 7] {
     [
         call_result("a reader that fails", reports_of_readers(alloc)),
-        call_result(
-            "equal steps as few runs",
-            has_few_runs(threads, alloc).unwrap_or(false),
-        ),
-        call_result(
-            "a worker in each of two threads",
-            acts_once(threads, alloc).unwrap_or(false),
-        ),
-        call_result(
-            "two threads that act often",
-            acts_often(threads, alloc).unwrap_or(false),
-        ),
-        call_result(
+        fallible_call("equal steps as few runs", has_few_runs(threads, alloc)),
+        fallible_call("a worker in each of two threads", acts_once(threads, alloc)),
+        fallible_call("two threads that act often", acts_often(threads, alloc)),
+        fallible_call(
             "tickets in either order",
-            acts_in_transition(threads, alloc).unwrap_or(false),
+            acts_in_transition(threads, alloc),
         ),
-        call_result(
-            "a ticket that is missing",
-            finishes_twice(alloc).unwrap_or(false),
-        ),
-        call_result(
-            "the stop mark",
-            keeps_its_mark(threads, alloc).unwrap_or(false),
-        ),
-        call_result(
-            "local instructions on a loan",
-            does_all(threads, alloc).unwrap_or(false),
-        ),
-        call_result(
-            "one local instruction on a loan",
-            does_one(threads, alloc).unwrap_or(false),
-        ),
-        call_result(
+        fallible_call("a ticket that is missing", finishes_twice(alloc)),
+        fallible_call("the stop mark", keeps_its_mark(threads, alloc)),
+    ]
+}
+
+/// Calls on frames that are lent.
+fn loan_calls(threads: &(impl Threads + Wait + Sync), alloc: Global) -> [Call; 7] {
+    [
+        fallible_call("local instructions on a loan", does_all(threads, alloc)),
+        fallible_call("one local instruction on a loan", does_one(threads, alloc)),
+        fallible_call(
             "a loan up to the last step of the budget",
-            leaves_the_last_step(threads, alloc).unwrap_or(false),
+            leaves_the_last_step(threads, alloc),
         ),
-        call_result(
-            "a loan up to a fault",
-            leaves_the_fault(threads, alloc).unwrap_or(false),
-        ),
-        call_result(
+        fallible_call("a loan up to a fault", leaves_the_fault(threads, alloc)),
+        fallible_call(
             "a frame that is lent twice",
-            answers(threads, alloc, Question::IsLentOnce).unwrap_or(false),
+            answers(threads, alloc, Question::IsLentOnce),
         ),
-        call_result(
+        fallible_call(
             "events of a lent thread",
-            answers(threads, alloc, Question::IsAway).unwrap_or(false),
+            answers(threads, alloc, Question::IsAway),
         ),
-        call_result(
+        fallible_call(
             "a collector that waits for a lent thread",
-            answers(threads, alloc, Question::IsWaitedFor).unwrap_or(false),
+            answers(threads, alloc, Question::IsWaitedFor),
         ),
-        call_result(
+    ]
+}
+
+/// Calls on runs by workers.
+fn worker_calls(threads: &(impl Threads + Wait + Sync), alloc: Global) -> [Call; 11] {
+    [
+        fallible_call(
             "the record of one worker",
-            records_one_worker(threads, alloc).unwrap_or(false),
+            records_one_worker(threads, alloc),
         ),
-        call_result(
-            "a replay of one worker",
-            replays_workers(threads, alloc, 1).unwrap_or(false),
-        ),
-        call_result(
+        fallible_call("a replay of one worker", replays_workers(threads, alloc, 1)),
+        fallible_call(
             "a replay of four workers",
-            replays_workers(threads, alloc, 4).unwrap_or(false),
+            replays_workers(threads, alloc, 4),
         ),
-        call_result(
+        fallible_call(
             "a replay of sixteen workers",
-            replays_workers(threads, alloc, 16).unwrap_or(false),
+            replays_workers(threads, alloc, 16),
         ),
-        call_result(
+        fallible_call(
             "one thread by four workers",
-            has_record_of_one(threads, alloc, 4).unwrap_or(false),
+            has_record_of_one(threads, alloc, 4),
         ),
-        call_result(
+        fallible_call(
             "one thread by sixteen workers",
-            has_record_of_one(threads, alloc, 16).unwrap_or(false),
+            has_record_of_one(threads, alloc, 16),
         ),
-        call_result(
+        fallible_call(
             "a deadlock that stops one worker",
-            stops_at_a_deadlock(threads, alloc, 1).unwrap_or(false),
+            stops_at_a_deadlock(threads, alloc, 1),
         ),
-        call_result(
+        fallible_call(
             "a deadlock that stops four workers",
-            stops_at_a_deadlock(threads, alloc, 4).unwrap_or(false),
+            stops_at_a_deadlock(threads, alloc, 4),
         ),
-        call_result(
+        fallible_call(
             "a run without a deadlock to stop at",
-            ends_without_a_deadlock(threads, alloc).unwrap_or(false),
+            ends_without_a_deadlock(threads, alloc),
         ),
-        call_result(
+        fallible_call(
             "a first worker that is held",
-            continues_without_the_first(threads, alloc).unwrap_or(false),
+            continues_without_the_first(threads, alloc),
         ),
-        call_result(
+        fallible_call(
             "a worker that is held in each phase",
-            waits_in_each_phase(threads, alloc, 1).unwrap_or(false),
+            waits_in_each_phase(threads, alloc, 1),
         ),
     ]
 }
@@ -202,7 +215,10 @@ fn acts_once(threads: &(impl Threads + Wait + Sync), alloc: Global) -> Result<bo
     let blank = Blank::new(alloc)?;
     let core = machine_of(alloc, SUM, LIMITS)?;
     let end = run_both::<Brand, _>(threads, alloc, blank, core, Event::Step(0), Event::Gc)?;
-    Ok(end.is_some_and(|(_, _, outcome)| times(&outcome) == 2 && !outcome.stopped))
+    match end {
+        Some((_, _, outcome)) => Ok(times(&outcome) == 2 && !outcome.stopped),
+        None => Ok(false),
+    }
 }
 
 /// Whether two threads that act often leave an entry for each event, and what the sum prints.
@@ -211,7 +227,10 @@ fn acts_often(threads: &(impl Threads + Wait + Sync), alloc: Global) -> Result<b
     let core = machine_of(alloc, SUM, LIMITS)?;
     let events = (Event::Step(0), Event::Ack(0));
     let end = act_many::<Brand, _>(threads, alloc, blank, core, events, 20_000)?;
-    Ok(end.is_some_and(|outcome| is_done(&outcome)))
+    match end {
+        Some(outcome) => Ok(is_done(&outcome)),
+        None => Ok(false),
+    }
 }
 
 /// Whether the history has the entries of two workers in the order in which they acted, in whatever order their tickets come back.
@@ -223,7 +242,10 @@ fn has_both_entries(waits: &impl Wait, alloc: Global, is_reversed: bool) -> Resu
     let blank = Blank::new(alloc)?;
     let core = machine_of(alloc, SUM, LIMITS)?;
     let end = act_in_transition::<Brand, _>(waits, alloc, blank, core, is_reversed)?;
-    Ok(end.is_some_and(|outcome| is_in_transition(&outcome)))
+    match end {
+        Some(outcome) => Ok(is_in_transition(&outcome)),
+        None => Ok(false),
+    }
 }
 
 /// Whether worker 1 did an event of the collector, and then worker 0 a step of thread 0.
@@ -245,7 +267,10 @@ fn finishes_twice(alloc: Global) -> Result<bool, Failure> {
     let blank = Blank::new(alloc)?;
     let core = machine_of(alloc, SUM, LIMITS)?;
     let end = finish_twice::<Brand>(alloc, blank, core)?;
-    Ok(end.is_some_and(|outcome| times(&outcome) == 0))
+    match end {
+        Some(outcome) => Ok(times(&outcome) == 0),
+        None => Ok(false),
+    }
 }
 
 /// Whether the stop mark is set by `stop` alone.

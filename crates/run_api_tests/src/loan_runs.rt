@@ -11,7 +11,7 @@ use cil_model::reports::{End, Fault, Report};
 use shared_machine::{
     Answer, Blank, Initial, Shared, Ticket, World, check_in, lend, perform, run_local,
 };
-use source_runs::{Failure, Machine};
+use source_runs::{Failure, Machine, Outcome};
 use std::alloc::Global;
 use std::marker::Brand;
 use std::sync::Wait;
@@ -64,15 +64,20 @@ fn run_on_loan<M: Initial, R: Wait>(
         return Ok(None);
     };
     let mut world = shared.lock(rt);
-    let Some(lent) = lend(&mut *world, 0) else {
-        return Ok(None);
-    };
-    let lent = run_local(lent, most);
-    let Ok(done) = check_in(&mut *world, &mut ticket, lent) else {
-        return Ok(None);
-    };
-    let next = perform(&mut *world, alloc, &mut ticket, Event::Step(0));
-    Ok(Some((done, next)))
+    Ok(run_lent(alloc, &mut *world, &mut ticket, most))
+}
+
+/// The same in a world that is locked.
+fn run_lent<M: Initial>(
+    alloc: Global,
+    world: &mut World<M>,
+    ticket: &mut Ticket<M>,
+    most: u32,
+) -> Option<(u32, Answer)> {
+    let lent = run_local(lend(world, 0)?, most);
+    let done = check_in(world, ticket, lent).ok()?;
+    let next = perform(world, alloc, ticket, Event::Step(0));
+    Some((done, next))
 }
 
 /// Whether the expected number of local instructions is done on the frame of a program's first thread, and its next step has the expected report.
@@ -164,21 +169,34 @@ fn is_so<M: Initial, R: Wait>(
         return Ok(false);
     };
     let mut world = shared.lock(rt);
-    let is_found = match question {
-        Question::IsLentOnce => is_lent_once(&mut *world, &mut ticket),
-        Question::IsAway => is_away(alloc, &mut *world, &mut ticket),
-        Question::IsWaitedFor => is_waited_for(alloc, &mut *world, &mut ticket),
-    };
+    let is_found = is_found(alloc, &mut *world, &mut ticket, question);
     drop(world);
     let mut tickets = Vec::new(alloc);
     tickets.push(ticket)?;
     match shared.finish(tickets) {
-        Ok(outcome) => {
-            let collected = matches!(question, Question::IsWaitedFor);
-            Ok(is_found && outcome.history.runs().is_empty() != collected)
-        }
+        Ok(outcome) => Ok(is_found && has_events(&outcome, question)),
         Err(_) => Ok(false),
     }
+}
+
+/// Whether what is asked holds of a world that is locked.
+fn is_found<M: Initial>(
+    alloc: Global,
+    world: &mut World<M>,
+    ticket: &mut Ticket<M>,
+    question: Question,
+) -> bool {
+    match question {
+        Question::IsLentOnce => is_lent_once(world, ticket),
+        Question::IsAway => is_away(alloc, world, ticket),
+        Question::IsWaitedFor => is_waited_for(alloc, world, ticket),
+    }
+}
+
+/// Whether a run has events where the collector is asked, and none otherwise.
+fn has_events(outcome: &Outcome, question: Question) -> bool {
+    let is_collected = matches!(question, Question::IsWaitedFor);
+    outcome.history.runs().is_empty() != is_collected
 }
 
 /// Whether what is asked holds of the sum before its first event.

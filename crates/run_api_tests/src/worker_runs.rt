@@ -58,6 +58,34 @@ pub(crate) const ROOM: Limits = Limits {
     depth: 8,
 };
 
+/// The outcome of a source that workers run without a bound on what is printed.
+fn run_by(
+    threads: &(impl Threads + Wait + Sync),
+    alloc: Global,
+    source: &str,
+    limits: Limits,
+    workers: u8,
+    stop_at: StopAt,
+) -> Result<Outcome, Failure>
+    requires { (1 ≤ workers) × (workers ≤ 16) }
+{
+    let source = source.as_bytes();
+    run_threads(
+        threads, alloc, source, limits, workers, stop_at, None, &OpenGate,
+    )
+}
+
+/// The record of a source that one worker runs to its end.
+fn record_by_one(
+    threads: &(impl Threads + Wait + Sync),
+    alloc: Global,
+    source: &str,
+    limits: Limits,
+) -> Result<String, Failure> {
+    let outcome = run_by(threads, alloc, source, limits, 1, StopAt::End)?;
+    Ok(write_record(alloc, &outcome.history)?)
+}
+
 /// Whether one worker leaves the record that its rule gives by hand: the three local instructions come first, in one pass. The first event
 /// of the collector opens a cycle, and the second waits, so the next number is posted, and the pass after it begins with an
 /// acknowledgement; from then on the collector marks. The last pass, which finds no live thread, has an event of the collector alone.
@@ -65,16 +93,7 @@ pub(crate) fn records_one_worker(
     threads: &(impl Threads + Wait + Sync),
     alloc: Global,
 ) -> Result<bool, Failure> {
-    let outcome = run_threads(
-        threads,
-        alloc,
-        SUM.as_bytes(),
-        LIMITS,
-        1,
-        StopAt::End,
-        None,
-        &OpenGate,
-    )?;
+    let outcome = run_by(threads, alloc, SUM, LIMITS, 1, StopAt::End)?;
     let is_recorded = has_record(alloc, &outcome, "s0*3 g s0 g a0 s0 g*2")?;
     Ok(is_recorded && outcome.console() == b"5\n".as_slice())
 }
@@ -102,28 +121,8 @@ pub(crate) fn has_record_of_one(
 ) -> Result<bool, Failure>
     requires { (1 ≤ workers) × (workers ≤ 16) }
 {
-    let source = GARBAGE.as_bytes();
-    let one = run_threads(
-        threads,
-        alloc,
-        source,
-        TIGHT,
-        1,
-        StopAt::End,
-        None,
-        &OpenGate,
-    )?;
-    let outcome = run_threads(
-        threads,
-        alloc,
-        source,
-        TIGHT,
-        workers,
-        StopAt::End,
-        None,
-        &OpenGate,
-    )?;
-    let record = write_record(alloc, &one.history)?;
+    let record = record_by_one(threads, alloc, GARBAGE, TIGHT)?;
+    let outcome = run_by(threads, alloc, GARBAGE, TIGHT, workers, StopAt::End)?;
     Ok(outcome.console() == b"200\n".as_slice() && has_record(alloc, &outcome, record.as_str())?)
 }
 
@@ -138,16 +137,7 @@ pub(crate) fn stops_at_a_deadlock(
 ) -> Result<bool, Failure>
     requires { (1 ≤ workers) × (workers ≤ 16) }
 {
-    let outcome = run_threads(
-        threads,
-        alloc,
-        WAITING.as_bytes(),
-        PATIENT,
-        workers,
-        StopAt::Deadlock,
-        None,
-        &OpenGate,
-    )?;
+    let outcome = run_by(threads, alloc, WAITING, PATIENT, workers, StopAt::Deadlock)?;
     Ok(
         outcome.stopped
             && outcome.machine.live() == 2
@@ -170,28 +160,8 @@ pub(crate) fn ends_without_a_deadlock(
     threads: &(impl Threads + Wait + Sync),
     alloc: Global,
 ) -> Result<bool, Failure> {
-    let source = COUNTING.as_bytes();
-    let one = run_threads(
-        threads,
-        alloc,
-        source,
-        ROOM,
-        1,
-        StopAt::End,
-        None,
-        &OpenGate,
-    )?;
-    let outcome = run_threads(
-        threads,
-        alloc,
-        source,
-        ROOM,
-        1,
-        StopAt::Deadlock,
-        None,
-        &OpenGate,
-    )?;
-    let record = write_record(alloc, &one.history)?;
+    let record = record_by_one(threads, alloc, COUNTING, ROOM)?;
+    let outcome = run_by(threads, alloc, COUNTING, ROOM, 1, StopAt::Deadlock)?;
     Ok(is_counted(&outcome) && has_record(alloc, &outcome, record.as_str())?)
 }
 
@@ -210,16 +180,7 @@ pub(crate) fn replays_workers(
 ) -> Result<bool, Failure>
     requires { (1 ≤ workers) × (workers ≤ 16) }
 {
-    let outcome = run_threads(
-        threads,
-        alloc,
-        COUNTING.as_bytes(),
-        ROOM,
-        workers,
-        StopAt::End,
-        None,
-        &OpenGate,
-    )?;
+    let outcome = run_by(threads, alloc, COUNTING, ROOM, workers, StopAt::End)?;
     Ok(is_counted(&outcome) && is_repeated(threads, alloc, &outcome)?)
 }
 
