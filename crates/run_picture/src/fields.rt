@@ -1,5 +1,6 @@
 //! Loads and stores of static fields.
 
+use crate::parts::write_member;
 use cil_model::instructions::{FieldReference, Instruction};
 use cil_model::trees::{Class, ClassKind, Member, Tree};
 use cil_model::types::ClassName;
@@ -101,16 +102,13 @@ fn add_field(
     Ok(())
 }
 
-/// Appends the name of a field, as `Program::sum`, and returns where it is.
+/// Appends the name of a field, and returns where it is.
 fn add_name(text: &mut String, tree: &Tree, id: FieldDeclaration) -> Result<Part, AllocError> {
-    let from = text.len();
     if let Some(class) = tree.classes.as_slice().get(id.class) {
         if let Some(Member::Field(field)) = class.members.as_slice().get(id.member) {
             let owner = CharactersText(&class.name);
-            let name = CharactersText(&field.name);
-            write!(text, "{owner}::{name}")?;
+            return write_member(text, &owner, &CharactersText(&field.name));
         }
     }
-    let to = text.len();
-    Ok(Part { from, to })
+    Ok(Part { from: 0, to: 0 })
 }

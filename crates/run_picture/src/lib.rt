@@ -11,6 +11,7 @@ mod event_instructions;
 mod fields;
 pub mod laws;
 mod monitors;
+mod parts;
 mod picturing;
 mod plots;
 mod rows;

@@ -6,6 +6,7 @@ use crate::deadlocks::add_waits;
 use crate::event_instructions::{ShortInstruction, instruction_of, is_entry};
 use crate::fields::see_access;
 use crate::monitors::Monitors;
+use crate::parts::{write_member, write_part};
 use crate::windows::Window;
 use cil_model::events::Event;
 use cil_model::memory::NoMemory;
@@ -97,6 +98,14 @@ impl Done {
         }
     }
 
+    /// The thread that has started others by it, if it has and is drawn.
+    fn starter(&self) -> Option<u8> {
+        match self.event {
+            Event::Step(thread) if self.is_drawn => Some(thread),
+            _ => None,
+        }
+    }
+
     /// Whether it is a step that has executed its instruction. The step that uses up the budget of its thread may be a blocked one.
     fn has_executed(&self) -> bool {
         match self.report {
@@ -146,16 +155,8 @@ impl Gathering {
     {
         let found = instruction_at(machine, methods, done.before.position);
         let position = found.as_ref();
-        let starter = match done.event {
-            Event::Step(thread) if done.is_drawn => Some(thread),
-            _ => None,
-        };
-        see_machine(&mut self.scene, machine, done.after, starter);
-        match done.event {
-            Event::Step(thread) => self.see_step(alloc, machine, thread, position, done)?,
-            Event::Ack(thread) => see_acknowledgement(&mut self.scene, machine, thread, done),
-            Event::Gc => self.see_collector(alloc, machine, done)?,
-        }
+        see_machine(&mut self.scene, machine, done.after, done.starter());
+        self.see_event(alloc, machine, position, done)?;
         if done.has_tip {
             add_tip(&mut self.scene, position, done)?;
         }
@@ -164,6 +165,22 @@ impl Gathering {
         } else {
             Err(NoMemory)
         }
+    }
+
+    /// What the event itself shows.
+    fn see_event(
+        &mut self,
+        alloc: Global,
+        machine: &Machine,
+        position: Option<&InstructionPosition>,
+        done: &Done,
+    ) -> Result<(), NoMemory> {
+        match done.event {
+            Event::Step(thread) => self.see_step(alloc, machine, thread, position, done)?,
+            Event::Ack(thread) => see_acknowledgement(&mut self.scene, machine, thread, done),
+            Event::Gc => self.see_collector(alloc, machine, done)?,
+        }
+        Ok(())
     }
 
     /// A step of a thread.
@@ -243,21 +260,26 @@ impl Gathering {
         };
         let is_new = self.scene.block(usize::from(thread), at, kind, value);
         if is_new && self.scene.deadlock.is_none() {
-            let deadlocked = deadlocked_threads(alloc, machine)?;
-            let from = self.scene.text.len();
-            add_waits(
-                &mut self.scene.text,
-                machine,
-                &self.monitors,
-                deadlocked.as_slice(),
-            )?;
-            let sentence = Part {
-                from,
-                to: self.scene.text.len(),
-            };
-            if from < sentence.to {
-                self.scene.deadlock = Some(Deadlock { at, sentence });
-            }
+            self.see_deadlock(alloc, machine, at)?;
+        }
+        Ok(())
+    }
+
+    /// Threads are perhaps deadlocked by an event.
+    fn see_deadlock(
+        &mut self,
+        alloc: Global,
+        machine: &Machine,
+        at: usize,
+    ) -> Result<(), NoMemory> {
+        let deadlocked = deadlocked_threads(alloc, machine)?;
+        let from = self.scene.text.len();
+        let text = &mut self.scene.text;
+        add_waits(text, machine, &self.monitors, deadlocked.as_slice())?;
+        let to = self.scene.text.len();
+        if from < to {
+            let sentence = Part { from, to };
+            self.scene.deadlock = Some(Deadlock { at, sentence });
         }
         Ok(())
     }
@@ -350,12 +372,8 @@ fn name_lane(
     };
     if let Some(at) = position {
         if lane.method.from == lane.method.to {
-            let from = scene.text.len();
-            let owner = at.found.owner;
             let name = MethodNameText(&at.found.method.name);
-            write!(scene.text, "{owner}::{name}")?;
-            let to = scene.text.len();
-            lane.method = Part { from, to };
+            lane.method = write_member(&mut scene.text, &at.found.owner, &name)?;
         }
     }
     Ok(())
@@ -368,18 +386,28 @@ fn add_tip(
     position: Option<&InstructionPosition>,
     done: &Done,
 ) -> Result<(), AllocError> {
-    let from = scene.text.len();
-    let number = done.at.saturating_add(1);
-    let event = EventText(done.event);
-    let report = ReportText(done.report);
-    let instruction = InstructionColumn(position.copied());
-    write!(scene.text, "{number} {event} {report}: {instruction}")?;
-    let to = scene.text.len();
+    let Part { from, to } = write_tip(&mut scene.text, position, done)?;
     scene.add(Mark::at(Kind::Tip, lane_of(done.event), done.at, from, to));
     if matches!(done.event, Event::Step(_)) {
         return add_short_name(scene, position, done);
     }
     Ok(())
+}
+
+/// Appends a tooltip.
+fn write_tip(
+    text: &mut String,
+    position: Option<&InstructionPosition>,
+    done: &Done,
+) -> Result<Part, AllocError> {
+    let from = text.len();
+    let number = done.at.saturating_add(1);
+    let event = EventText(done.event);
+    let report = ReportText(done.report);
+    let instruction = InstructionColumn(position.copied());
+    write!(text, "{number} {event} {report}: {instruction}")?;
+    let to = text.len();
+    Ok(Part { from, to })
 }
 
 /// Adds the short name of the instruction of a step. Nothing where the thread was after its last one.
@@ -389,10 +417,8 @@ fn add_short_name(
     done: &Done,
 ) -> Result<(), AllocError> {
     if let Some(instruction) = instruction_of(position) {
-        let from = scene.text.len();
         let name = ShortInstruction(instruction);
-        write!(scene.text, "{name}")?;
-        let to = scene.text.len();
+        let Part { from, to } = write_part(&mut scene.text, &name)?;
         scene.add(Mark::at(Kind::Name, lane_of(done.event), done.at, from, to));
     }
     Ok(())
