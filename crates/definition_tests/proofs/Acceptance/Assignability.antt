@@ -1,110 +1,57 @@
 -- Which types are assignable, and which lie below which.
-use Rattle.std.proofs.Common.{◌≡◌, true, false, Some, None, refl, codes}
+use Rattle.std.proofs.Common.{◌≡◌, ◌∷◌, [], true, false, Some, None, refl, codes}
 use Rattle.cil_model.specs.declared.types.Element.TheVariants.{Int32, Int64, Object, String}
 use Rattle.cil_model.specs.declared.trees.Tree.{Tree}
 use Rattle.cil_model.specs.Declarations.{thread_name, plain}
 use Rattle.cil_model.specs.Assignable.{is_assignable, type_of_class}
 use Rattle.cil_model.specs.TypeTree.{Declared, NativeInt, Null, i4, parent, ancestor, IsBelow, fits}
 use Rattle.cil_model.proofs.SameLaws.{never}
+use Rattle.definition_tests.proofs.Samples.Tables.{Answers, PairAnswers}
 use Rattle.definition_tests.proofs.Samples.Programs.{of_class, arrays_of}
 use Rattle.definition_tests.proofs.Samples.FarmProgram.{farm}
 
 -- ---- assignable
 
-itself : is_assignable farm (of_class (codes "Dog")) (of_class (codes "Dog")) ≡ true
-itself = refl
-
-to_base : is_assignable farm (of_class (codes "Dog")) (of_class (codes "Animal")) ≡ true
-to_base = refl
-
-from_base : is_assignable farm (of_class (codes "Animal")) (of_class (codes "Dog")) ≡ false
-from_base = refl
-
-to_interface : is_assignable farm (of_class (codes "Dog")) (of_class (codes "IRun")) ≡ true
-to_interface = refl
-
-interface_to_object : is_assignable farm (of_class (codes "IRun")) (plain Object) ≡ true
-interface_to_object = refl
-
-interface_to_class : is_assignable farm (of_class (codes "IRun")) (of_class (codes "Dog")) ≡ false
-interface_to_class = refl
-
-cat_to_interface : is_assignable farm (of_class (codes "Cat")) (of_class (codes "IRun")) ≡ false
-cat_to_interface = refl
-
-string_to_object : is_assignable farm (plain String) (plain Object) ≡ true
-string_to_object = refl
-
-integer_to_object : is_assignable farm (plain Int32) (plain Object) ≡ false
-integer_to_object = refl
-
-integer_to_long : is_assignable farm (plain Int32) (plain Int64) ≡ false
-integer_to_long = refl
-
-thread_class : is_assignable farm (of_class (codes "T")) (type_of_class thread_name) ≡ true
-thread_class = refl
-
-arrays : is_assignable farm (arrays_of (of_class (codes "Dog")) 1) (arrays_of (of_class (codes "IRun")) 1) ≡ true
-arrays = refl
-
-array_to_object : is_assignable farm (arrays_of (plain Int32) 1) (plain Object) ≡ true
-array_to_object = refl
-
-integers_to_objects : is_assignable farm (arrays_of (plain Int32) 1) (arrays_of (plain Object) 1) ≡ false
-integers_to_objects = refl
-
-integers_to_integers : is_assignable farm (arrays_of (plain Int32) 1) (arrays_of (plain Int32) 1) ≡ true
-integers_to_integers = refl
-
-integers_to_longs : is_assignable farm (arrays_of (plain Int32) 1) (arrays_of (plain Int64) 1) ≡ false
-integers_to_longs = refl
-
-nested_integers : is_assignable farm (arrays_of (plain Int32) 2) (arrays_of (plain Object) 1) ≡ true
-nested_integers = refl
-
-nested_too_deep : is_assignable farm (arrays_of (plain Int32) 2) (arrays_of (plain Object) 2) ≡ false
-nested_too_deep = refl
-
-nested_arrays : is_assignable farm (arrays_of (of_class (codes "Dog")) 2) (arrays_of (of_class (codes "Animal")) 2) ≡ true
-nested_arrays = refl
+assignable_types : PairAnswers (is_assignable farm) (
+    (codes "itself", of_class (codes "Dog"), of_class (codes "Dog"), true) ∷
+    (codes "to base", of_class (codes "Dog"), of_class (codes "Animal"), true) ∷
+    (codes "from base", of_class (codes "Animal"), of_class (codes "Dog"), false) ∷
+    (codes "to interface", of_class (codes "Dog"), of_class (codes "IRun"), true) ∷
+    (codes "interface to object", of_class (codes "IRun"), plain Object, true) ∷
+    (codes "interface to class", of_class (codes "IRun"), of_class (codes "Dog"), false) ∷
+    (codes "cat to interface", of_class (codes "Cat"), of_class (codes "IRun"), false) ∷
+    (codes "string to object", plain String, plain Object, true) ∷
+    (codes "integer to object", plain Int32, plain Object, false) ∷
+    (codes "integer to long", plain Int32, plain Int64, false) ∷
+    (codes "thread class", of_class (codes "T"), type_of_class thread_name, true) ∷
+    (codes "arrays", arrays_of (of_class (codes "Dog")) 1, arrays_of (of_class (codes "IRun")) 1, true) ∷
+    (codes "array to object", arrays_of (plain Int32) 1, plain Object, true) ∷
+    (codes "integers to objects", arrays_of (plain Int32) 1, arrays_of (plain Object) 1, false) ∷
+    (codes "integers to integers", arrays_of (plain Int32) 1, arrays_of (plain Int32) 1, true) ∷
+    (codes "integers to longs", arrays_of (plain Int32) 1, arrays_of (plain Int64) 1, false) ∷
+    (codes "nested integers", arrays_of (plain Int32) 2, arrays_of (plain Object) 1, true) ∷
+    (codes "nested too deep", arrays_of (plain Int32) 2, arrays_of (plain Object) 2, false) ∷
+    (codes "nested arrays", arrays_of (of_class (codes "Dog")) 2, arrays_of (of_class (codes "Animal")) 2, true) ∷
+    [])
+assignable_types = refl
 
 -- ---- parents
 
-parent_of_class : parent farm (of_class (codes "Dog")) ≡ Some (of_class (codes "Animal"))
-parent_of_class = refl
-
-parent_of_lone_class : parent farm (of_class (codes "Animal")) ≡ Some (plain Object)
-parent_of_lone_class = refl
-
-parent_of_interface : parent farm (of_class (codes "IRun")) ≡ Some (plain Object)
-parent_of_interface = refl
-
-parent_of_thread : parent farm (type_of_class thread_name) ≡ Some (plain Object)
-parent_of_thread = refl
-
-parent_of_string : parent farm (plain String) ≡ Some (plain Object)
-parent_of_string = refl
-
-parent_of_object : parent farm (plain Object) ≡ None
-parent_of_object = refl
-
-parent_of_integer : parent farm (plain Int32) ≡ None
-parent_of_integer = refl
-
-parent_of_dogs : parent farm (arrays_of (of_class (codes "Dog")) 2) ≡ Some (arrays_of (of_class (codes "Animal")) 2)
-parent_of_dogs = refl
-
-parent_of_runners : parent farm (arrays_of (of_class (codes "IRun")) 1) ≡ Some (arrays_of (plain Object) 1)
-parent_of_runners = refl
-
-parent_of_objects : parent farm (arrays_of (plain Object) 1) ≡ Some (plain Object)
-parent_of_objects = refl
-
-parent_of_integers : parent farm (arrays_of (plain Int32) 1) ≡ Some (plain Object)
-parent_of_integers = refl
-
-parent_of_nested_integers : parent farm (arrays_of (plain Int32) 2) ≡ Some (arrays_of (plain Object) 1)
-parent_of_nested_integers = refl
+parents_of_types : Answers (parent farm) (
+    (codes "parent of class", of_class (codes "Dog"), Some (of_class (codes "Animal"))) ∷
+    (codes "parent of lone class", of_class (codes "Animal"), Some (plain Object)) ∷
+    (codes "parent of interface", of_class (codes "IRun"), Some (plain Object)) ∷
+    (codes "parent of thread", type_of_class thread_name, Some (plain Object)) ∷
+    (codes "parent of string", plain String, Some (plain Object)) ∷
+    (codes "parent of object", plain Object, None) ∷
+    (codes "parent of integer", plain Int32, None) ∷
+    (codes "parent of dogs", arrays_of (of_class (codes "Dog")) 2, Some (arrays_of (of_class (codes "Animal")) 2)) ∷
+    (codes "parent of runners", arrays_of (of_class (codes "IRun")) 1, Some (arrays_of (plain Object) 1)) ∷
+    (codes "parent of objects", arrays_of (plain Object) 1, Some (plain Object)) ∷
+    (codes "parent of integers", arrays_of (plain Int32) 1, Some (plain Object)) ∷
+    (codes "parent of nested integers", arrays_of (plain Int32) 2, Some (arrays_of (plain Object) 1)) ∷
+    [])
+parents_of_types = refl
 
 two_up : ancestor farm 2 (arrays_of (of_class (codes "Dog")) 1) ≡ Some (arrays_of (plain Object) 1)
 two_up = refl
@@ -114,14 +61,12 @@ three_up = refl
 
 -- ---- what may be given
 
-null_fits_reference : fits farm Null (of_class (codes "Dog")) ≡ true
-null_fits_reference = refl
-
-native_fits_nothing : fits farm NativeInt (plain Int32) ≡ false
-native_fits_nothing = refl
-
-dog_fits_interface : fits farm (Declared (of_class (codes "Dog"))) (of_class (codes "IRun")) ≡ true
-dog_fits_interface = refl
+fitting_types : PairAnswers (fits farm) (
+    (codes "null fits reference", Null, of_class (codes "Dog"), true) ∷
+    (codes "native fits nothing", NativeInt, plain Int32, false) ∷
+    (codes "dog fits interface", Declared (of_class (codes "Dog")), of_class (codes "IRun"), true) ∷
+    [])
+fitting_types = refl
 
 -- null is below references alone
 null_is_no_integer : (tree : Tree) → IsBelow tree Null i4 → ⊥

@@ -1,6 +1,6 @@
 -- What the barriers do in each phase, on a heap that is written out: one object in the old block, which refers to another, and the copies of
 -- both in the new one.
-use Rattle.std.proofs.Common.{◌≡◌, ◌+◌, ℕ, Bool, true, false, List, [], ◌∷◌, length, Option, Some, None, option_map, refl}
+use Rattle.std.proofs.Common.{◌≡◌, ◌+◌, ℕ, Bool, true, false, List, [], ◌∷◌, length, Option, Some, None, option_map, refl, codes}
 use Rattle.cil_model.specs.declared.limits.TheConstants.{MOST_WORDS}
 use Rattle.cil_model.specs.declared.phases.Phase.{Phase}
 use Rattle.cil_model.specs.declared.phases.Phase.TheVariants.{Idle, Mark, Allocate, Copy, PreFlip, HeapFlip, ThreadFlip, Reclaim}
@@ -13,6 +13,7 @@ use Rattle.object_memory.specs.declared.values.Value.TheVariants.{Ref}
 use Rattle.object_memory.specs.Cells.{Cell, literal}
 use Rattle.object_memory.specs.Objects.{Objects, monitor_at, object_slots}
 use Rattle.barriers.specs.Barriers.{are_same, is_storable, object_born, stored_int, stored_monitor, stored_static, stored_value}
+use Rattle.definition_tests.proofs.Samples.Tables.{Answers}
 
 -- ---- a heap
 
@@ -70,29 +71,17 @@ shown o = (object_slots o one, object_slots o one_copied, o.spaces.grey)
 abbrev plain : List ℕ × List ℕ × List Addr
 plain = (6 ∷ 7 ∷ [], [], [])
 
-reference_while_idle : shown (stored_value Idle before one 0 (Ref two)) ≡ plain
-reference_while_idle = refl
-
-reference_while_marking : shown (stored_value Mark marking one 0 (Ref two)) ≡ (6 ∷ 7 ∷ [], [], two ∷ [])
-reference_while_marking = refl
-
-reference_while_allocating : shown (stored_value Allocate marking one 0 (Ref two)) ≡ plain
-reference_while_allocating = refl
-
-reference_while_copying : shown (stored_value Copy copied one 0 (Ref two)) ≡ (6 ∷ 7 ∷ [], (6 + MOST_WORDS) ∷ 7 ∷ [], [])
-reference_while_copying = refl
-
-reference_before_the_flips : shown (stored_value PreFlip copied one 0 (Ref two)) ≡ (6 ∷ 7 ∷ [], (6 + MOST_WORDS) ∷ 7 ∷ [], [])
-reference_before_the_flips = refl
-
-reference_at_the_heap_flip : shown (stored_value HeapFlip copied one_copied 0 (Ref two)) ≡ (6 ∷ 7 ∷ [], (6 + MOST_WORDS) ∷ 7 ∷ [], [])
-reference_at_the_heap_flip = refl
-
-reference_at_the_thread_flip : shown (stored_value ThreadFlip copied one_copied 0 (Ref two_copied)) ≡ ((6 + MOST_WORDS) ∷ 7 ∷ [], (6 + MOST_WORDS) ∷ 7 ∷ [], [])
-reference_at_the_thread_flip = refl
-
-reference_while_reclaiming : shown (stored_value Reclaim copied one_copied 0 (Ref two_copied)) ≡ (0 ∷ 7 ∷ [], (6 + MOST_WORDS) ∷ 7 ∷ [], [])
-reference_while_reclaiming = refl
+stores_of_references : Answers shown (
+    (codes "reference while idle", stored_value Idle before one 0 (Ref two), plain) ∷
+    (codes "reference while marking", stored_value Mark marking one 0 (Ref two), (6 ∷ 7 ∷ [], [], two ∷ [])) ∷
+    (codes "reference while allocating", stored_value Allocate marking one 0 (Ref two), plain) ∷
+    (codes "reference while copying", stored_value Copy copied one 0 (Ref two), (6 ∷ 7 ∷ [], (6 + MOST_WORDS) ∷ 7 ∷ [], [])) ∷
+    (codes "reference before the flips", stored_value PreFlip copied one 0 (Ref two), (6 ∷ 7 ∷ [], (6 + MOST_WORDS) ∷ 7 ∷ [], [])) ∷
+    (codes "reference at the heap flip", stored_value HeapFlip copied one_copied 0 (Ref two), (6 ∷ 7 ∷ [], (6 + MOST_WORDS) ∷ 7 ∷ [], [])) ∷
+    (codes "reference at the thread flip", stored_value ThreadFlip copied one_copied 0 (Ref two_copied), ((6 + MOST_WORDS) ∷ 7 ∷ [], (6 + MOST_WORDS) ∷ 7 ∷ [], [])) ∷
+    (codes "reference while reclaiming", stored_value Reclaim copied one_copied 0 (Ref two_copied), (0 ∷ 7 ∷ [], (6 + MOST_WORDS) ∷ 7 ∷ [], [])) ∷
+    [])
+stores_of_references = refl
 
 -- a mark takes an open cycle, and an object of this heap
 no_mark_between_cycles : is_storable Mark before one 0 (Ref two) ≡ false
@@ -103,58 +92,34 @@ no_mark_of_a_stray_address = refl
 
 -- ---- an integer is stored to the second slot
 
-integer_while_idle : shown (stored_int Idle before one 1 9) ≡ (0 ∷ 9 ∷ [], [], [])
-integer_while_idle = refl
-
-integer_while_marking : shown (stored_int Mark marking one 1 9) ≡ (0 ∷ 9 ∷ [], [], [])
-integer_while_marking = refl
-
-integer_while_allocating : shown (stored_int Allocate marking one 1 9) ≡ (0 ∷ 9 ∷ [], [], [])
-integer_while_allocating = refl
-
-integer_while_copying : shown (stored_int Copy copied one 1 9) ≡ (0 ∷ 9 ∷ [], 0 ∷ 9 ∷ [], [])
-integer_while_copying = refl
-
-integer_before_the_flips : shown (stored_int PreFlip copied one_copied 1 9) ≡ (0 ∷ 9 ∷ [], 0 ∷ 9 ∷ [], [])
-integer_before_the_flips = refl
-
-integer_at_the_heap_flip : shown (stored_int HeapFlip copied one 1 9) ≡ (0 ∷ 9 ∷ [], 0 ∷ 9 ∷ [], [])
-integer_at_the_heap_flip = refl
-
-integer_at_the_thread_flip : shown (stored_int ThreadFlip copied one_copied 1 9) ≡ (0 ∷ 9 ∷ [], 0 ∷ 9 ∷ [], [])
-integer_at_the_thread_flip = refl
-
-integer_while_reclaiming : shown (stored_int Reclaim copied one_copied 1 9) ≡ (0 ∷ 7 ∷ [], 0 ∷ 9 ∷ [], [])
-integer_while_reclaiming = refl
+stores_of_integers : Answers shown (
+    (codes "integer while idle", stored_int Idle before one 1 9, (0 ∷ 9 ∷ [], [], [])) ∷
+    (codes "integer while marking", stored_int Mark marking one 1 9, (0 ∷ 9 ∷ [], [], [])) ∷
+    (codes "integer while allocating", stored_int Allocate marking one 1 9, (0 ∷ 9 ∷ [], [], [])) ∷
+    (codes "integer while copying", stored_int Copy copied one 1 9, (0 ∷ 9 ∷ [], 0 ∷ 9 ∷ [], [])) ∷
+    (codes "integer before the flips", stored_int PreFlip copied one_copied 1 9, (0 ∷ 9 ∷ [], 0 ∷ 9 ∷ [], [])) ∷
+    (codes "integer at the heap flip", stored_int HeapFlip copied one 1 9, (0 ∷ 9 ∷ [], 0 ∷ 9 ∷ [], [])) ∷
+    (codes "integer at the thread flip", stored_int ThreadFlip copied one_copied 1 9, (0 ∷ 9 ∷ [], 0 ∷ 9 ∷ [], [])) ∷
+    (codes "integer while reclaiming", stored_int Reclaim copied one_copied 1 9, (0 ∷ 7 ∷ [], 0 ∷ 9 ∷ [], [])) ∷
+    [])
+stores_of_integers = refl
 
 -- ---- a thread enters the monitor of the first object
 
 abbrev monitors : Objects → Option Monitor × Option Monitor
 monitors o = (monitor_at o one, monitor_at o one_copied)
 
-monitor_while_idle : monitors (stored_monitor Idle before one (Held 3 1)) ≡ (Some (Held 3 1), None)
-monitor_while_idle = refl
-
-monitor_while_marking : monitors (stored_monitor Mark marking one (Held 3 1)) ≡ (Some (Held 3 1), None)
-monitor_while_marking = refl
-
-monitor_while_allocating : monitors (stored_monitor Allocate marking one (Held 3 1)) ≡ (Some (Held 3 1), None)
-monitor_while_allocating = refl
-
-monitor_while_copying : monitors (stored_monitor Copy copied one (Held 3 1)) ≡ (Some (Held 3 1), Some (Held 3 1))
-monitor_while_copying = refl
-
-monitor_before_the_flips : monitors (stored_monitor PreFlip copied one_copied (Held 3 1)) ≡ (Some (Held 3 1), Some (Held 3 1))
-monitor_before_the_flips = refl
-
-monitor_at_the_heap_flip : monitors (stored_monitor HeapFlip copied one (Held 3 1)) ≡ (Some (Held 3 1), Some (Held 3 1))
-monitor_at_the_heap_flip = refl
-
-monitor_at_the_thread_flip : monitors (stored_monitor ThreadFlip copied one_copied (Held 3 1)) ≡ (Some (Held 3 1), Some (Held 3 1))
-monitor_at_the_thread_flip = refl
-
-monitor_while_reclaiming : monitors (stored_monitor Reclaim copied one_copied (Held 3 1)) ≡ (Some Free, Some (Held 3 1))
-monitor_while_reclaiming = refl
+stores_of_monitors : Answers monitors (
+    (codes "monitor while idle", stored_monitor Idle before one (Held 3 1), (Some (Held 3 1), None)) ∷
+    (codes "monitor while marking", stored_monitor Mark marking one (Held 3 1), (Some (Held 3 1), None)) ∷
+    (codes "monitor while allocating", stored_monitor Allocate marking one (Held 3 1), (Some (Held 3 1), None)) ∷
+    (codes "monitor while copying", stored_monitor Copy copied one (Held 3 1), (Some (Held 3 1), Some (Held 3 1))) ∷
+    (codes "monitor before the flips", stored_monitor PreFlip copied one_copied (Held 3 1), (Some (Held 3 1), Some (Held 3 1))) ∷
+    (codes "monitor at the heap flip", stored_monitor HeapFlip copied one (Held 3 1), (Some (Held 3 1), Some (Held 3 1))) ∷
+    (codes "monitor at the thread flip", stored_monitor ThreadFlip copied one_copied (Held 3 1), (Some (Held 3 1), Some (Held 3 1))) ∷
+    (codes "monitor while reclaiming", stored_monitor Reclaim copied one_copied (Held 3 1), (Some Free, Some (Held 3 1))) ∷
+    [])
+stores_of_monitors = refl
 
 -- a literal has one monitor in every phase
 monitor_of_a_literal : monitor_at (stored_monitor Copy copied (literal 0) (Held 3 1)) (literal 0) ≡ Some (Held 3 1)
@@ -169,29 +134,17 @@ statics x = (x.1, x.0.spaces.grey)
 abbrev fields : List Value
 fields = Ref (record { number = 0 }) ∷ []
 
-static_while_idle : statics (stored_static Idle before fields 0 (Ref two)) ≡ (Ref two ∷ [], [])
-static_while_idle = refl
-
-static_while_marking : statics (stored_static Mark marking fields 0 (Ref two)) ≡ (Ref two ∷ [], two ∷ [])
-static_while_marking = refl
-
-static_while_allocating : statics (stored_static Allocate marking fields 0 (Ref two)) ≡ (Ref two ∷ [], [])
-static_while_allocating = refl
-
-static_while_copying : statics (stored_static Copy copied fields 0 (Ref two)) ≡ (Ref two ∷ [], [])
-static_while_copying = refl
-
-static_before_the_flips : statics (stored_static PreFlip copied fields 0 (Ref two)) ≡ (Ref two_copied ∷ [], [])
-static_before_the_flips = refl
-
-static_at_the_heap_flip : statics (stored_static HeapFlip copied fields 0 (Ref two)) ≡ (Ref two_copied ∷ [], [])
-static_at_the_heap_flip = refl
-
-static_at_the_thread_flip : statics (stored_static ThreadFlip copied fields 0 (Ref two_copied)) ≡ (Ref two_copied ∷ [], [])
-static_at_the_thread_flip = refl
-
-static_while_reclaiming : statics (stored_static Reclaim copied fields 0 (Ref two_copied)) ≡ (Ref two_copied ∷ [], [])
-static_while_reclaiming = refl
+stores_to_static_fields : Answers statics (
+    (codes "static while idle", stored_static Idle before fields 0 (Ref two), (Ref two ∷ [], [])) ∷
+    (codes "static while marking", stored_static Mark marking fields 0 (Ref two), (Ref two ∷ [], two ∷ [])) ∷
+    (codes "static while allocating", stored_static Allocate marking fields 0 (Ref two), (Ref two ∷ [], [])) ∷
+    (codes "static while copying", stored_static Copy copied fields 0 (Ref two), (Ref two ∷ [], [])) ∷
+    (codes "static before the flips", stored_static PreFlip copied fields 0 (Ref two), (Ref two_copied ∷ [], [])) ∷
+    (codes "static at the heap flip", stored_static HeapFlip copied fields 0 (Ref two), (Ref two_copied ∷ [], [])) ∷
+    (codes "static at the thread flip", stored_static ThreadFlip copied fields 0 (Ref two_copied), (Ref two_copied ∷ [], [])) ∷
+    (codes "static while reclaiming", stored_static Reclaim copied fields 0 (Ref two_copied), (Ref two_copied ∷ [], [])) ∷
+    [])
+stores_to_static_fields = refl
 
 -- ---- an object of two fields is born
 
@@ -199,29 +152,17 @@ static_while_reclaiming = refl
 abbrev born : Objects × Option Addr → Option ℕ × ℕ × ℕ × List Addr
 born x = (option_map (λ (a : Addr). a.number) x.1, length x.0.spaces.old.cells, length x.0.spaces.new.cells, x.0.spaces.grey)
 
-birth_while_idle : born (object_born Idle before (Instance 5) 2) ≡ (Some 10, 3, 0, [])
-birth_while_idle = refl
-
-birth_while_marking : born (object_born Mark marking (Instance 5) 2) ≡ (Some 10, 3, 0, record { number = 10 } ∷ [])
-birth_while_marking = refl
-
-birth_while_allocating : born (object_born Allocate marking (Instance 5) 2) ≡ (Some 10, 3, 1, [])
-birth_while_allocating = refl
-
-birth_while_copying : born (object_born Copy copied (Instance 5) 2) ≡ (Some 10, 3, 3, [])
-birth_while_copying = refl
-
-birth_before_the_flips : born (object_born PreFlip copied (Instance 5) 2) ≡ (Some 10, 3, 3, [])
-birth_before_the_flips = refl
-
-birth_at_the_heap_flip : born (object_born HeapFlip copied (Instance 5) 2) ≡ (Some 10, 3, 3, [])
-birth_at_the_heap_flip = refl
-
-birth_at_the_thread_flip : born (object_born ThreadFlip copied (Instance 5) 2) ≡ (Some (10 + MOST_WORDS), 2, 3, [])
-birth_at_the_thread_flip = refl
-
-birth_while_reclaiming : born (object_born Reclaim copied (Instance 5) 2) ≡ (Some (10 + MOST_WORDS), 2, 3, [])
-birth_while_reclaiming = refl
+births : Answers born (
+    (codes "birth while idle", object_born Idle before (Instance 5) 2, (Some 10, 3, 0, [])) ∷
+    (codes "birth while marking", object_born Mark marking (Instance 5) 2, (Some 10, 3, 0, record { number = 10 } ∷ [])) ∷
+    (codes "birth while allocating", object_born Allocate marking (Instance 5) 2, (Some 10, 3, 1, [])) ∷
+    (codes "birth while copying", object_born Copy copied (Instance 5) 2, (Some 10, 3, 3, [])) ∷
+    (codes "birth before the flips", object_born PreFlip copied (Instance 5) 2, (Some 10, 3, 3, [])) ∷
+    (codes "birth at the heap flip", object_born HeapFlip copied (Instance 5) 2, (Some 10, 3, 3, [])) ∷
+    (codes "birth at the thread flip", object_born ThreadFlip copied (Instance 5) 2, (Some (10 + MOST_WORDS), 2, 3, [])) ∷
+    (codes "birth while reclaiming", object_born Reclaim copied (Instance 5) 2, (Some (10 + MOST_WORDS), 2, 3, [])) ∷
+    [])
+births = refl
 
 -- one that exceeds the room changes nothing
 birth_beyond_the_room : object_born Copy copied (Instance 5) 53 ≡ (copied, None)
@@ -232,26 +173,14 @@ birth_beyond_the_room = refl
 abbrev compared : Phase → Bool × Bool
 compared phase = (are_same phase copied one one_copied, are_same phase copied one two)
 
-compared_while_idle : compared Idle ≡ (false, false)
-compared_while_idle = refl
-
-compared_while_marking : compared Mark ≡ (false, false)
-compared_while_marking = refl
-
-compared_while_allocating : compared Allocate ≡ (false, false)
-compared_while_allocating = refl
-
-compared_while_copying : compared Copy ≡ (true, false)
-compared_while_copying = refl
-
-compared_before_the_flips : compared PreFlip ≡ (true, false)
-compared_before_the_flips = refl
-
-compared_at_the_heap_flip : compared HeapFlip ≡ (true, false)
-compared_at_the_heap_flip = refl
-
-compared_at_the_thread_flip : compared ThreadFlip ≡ (false, false)
-compared_at_the_thread_flip = refl
-
-compared_while_reclaiming : compared Reclaim ≡ (false, false)
-compared_while_reclaiming = refl
+comparisons_of_addresses : Answers compared (
+    (codes "compared while idle", Idle, (false, false)) ∷
+    (codes "compared while marking", Mark, (false, false)) ∷
+    (codes "compared while allocating", Allocate, (false, false)) ∷
+    (codes "compared while copying", Copy, (true, false)) ∷
+    (codes "compared before the flips", PreFlip, (true, false)) ∷
+    (codes "compared at the heap flip", HeapFlip, (true, false)) ∷
+    (codes "compared at the thread flip", ThreadFlip, (false, false)) ∷
+    (codes "compared while reclaiming", Reclaim, (false, false)) ∷
+    [])
+comparisons_of_addresses = refl

@@ -19,6 +19,7 @@ use Rattle.reference_machine.specs.Rooms.{cell_words}
 use Rattle.cil_model.specs.Ranges.{are_in_range}
 use Rattle.cil_model.specs.Sources.{is_too_long}
 use Rattle.cil_model.specs.Examples.{usual_limits, sum_source}
+use Rattle.definition_tests.proofs.Samples.Tables.{Answers, PairAnswers}
 use Rattle.definition_tests.proofs.Samples.Programs.{named}
 use Rattle.definition_tests.proofs.Samples.FarmProgram.{farm, farm_state, idle_frame, animal_fields, dog, int, object}
 
@@ -31,32 +32,18 @@ spaces = record { old = record { words = 64; used = 40 }; newer = Some (record {
 abbrev after_cycle : SpaceSizes
 after_cycle = record { old = record { words = 64; used = 4 }; newer = None }
 
-room_in_old : room spaces Mark ≡ 24
-room_in_old = refl
-
-room_in_both : room spaces Allocate ≡ 24
-room_in_both = refl
-
-room_while_copying : room spaces Copy ≡ 24
-room_while_copying = refl
-
-room_before_flip : room spaces PreFlip ≡ 24
-room_before_flip = refl
-
-room_in_heap_flip : room spaces HeapFlip ≡ 24
-room_in_heap_flip = refl
-
-room_in_thread_flip : room spaces ThreadFlip ≡ 44
-room_in_thread_flip = refl
-
-room_in_reclaim : room spaces Reclaim ≡ 44
-room_in_reclaim = refl
-
-room_between_cycles : room after_cycle Idle ≡ 60
-room_between_cycles = refl
-
-room_after_cycle : room after_cycle Reclaim ≡ 60
-room_after_cycle = refl
+room_by_phase : PairAnswers room (
+    (codes "room in old", spaces, Mark, 24) ∷
+    (codes "room in both", spaces, Allocate, 24) ∷
+    (codes "room while copying", spaces, Copy, 24) ∷
+    (codes "room before flip", spaces, PreFlip, 24) ∷
+    (codes "room in heap flip", spaces, HeapFlip, 24) ∷
+    (codes "room in thread flip", spaces, ThreadFlip, 44) ∷
+    (codes "room in reclaim", spaces, Reclaim, 44) ∷
+    (codes "room between cycles", after_cycle, Idle, 60) ∷
+    (codes "room after cycle", after_cycle, Reclaim, 60) ∷
+    [])
+room_by_phase = refl
 
 just_fits : is_refused after_cycle Reclaim 60 ≡ false
 just_fits = refl
@@ -81,23 +68,19 @@ whole_cycle =
     ran ∷ ran ∷ ran ∷ gc Worked ∷ ack Acked ∷ gc Worked ∷ gc Worked ∷ ack Acked ∷ gc Worked ∷ ack Acked ∷ gc Worked ∷ ack Acked ∷ gc Worked ∷ ack Acked ∷
     gc Worked ∷ ack Acked ∷ gc Worked ∷ ack Acked ∷ gc Worked ∷ ack Acked ∷ gc CycleDone ∷ []
 
-work_of_cycle : working_in_cycle whole_cycle ≡ 10
-work_of_cycle = refl
+work_of_cycles : Answers working_in_cycle (
+    (codes "work of cycle", whole_cycle, 10) ∷
+    (codes "waiting is no work", gc Worked ∷ gc Waiting ∷ gc Waiting ∷ ack Acked ∷ gc Worked ∷ [], 2) ∷
+    (codes "next cycle begins anew", whole_cycle ++ gc Waiting ∷ ack Acked ∷ gc Worked ∷ [], 1) ∷
+    [])
+work_of_cycles = refl
 
-waiting_is_no_work : working_in_cycle (gc Worked ∷ gc Waiting ∷ gc Waiting ∷ ack Acked ∷ gc Worked ∷ []) ≡ 2
-waiting_is_no_work = refl
-
-next_cycle_begins_anew : working_in_cycle (whole_cycle ++ gc Waiting ∷ ack Acked ∷ gc Worked ∷ []) ≡ 1
-next_cycle_begins_anew = refl
-
-open_cycle : is_cycle_open (ran ∷ gc Worked ∷ ran ∷ []) ≡ true
-open_cycle = refl
-
-closed_cycle : is_cycle_open whole_cycle ≡ false
-closed_cycle = refl
-
-no_cycle_yet : is_cycle_open (ran ∷ gc Waiting ∷ []) ≡ false
-no_cycle_yet = refl
+open_cycles : Answers is_cycle_open (
+    (codes "open cycle", ran ∷ gc Worked ∷ ran ∷ [], true) ∷
+    (codes "closed cycle", whole_cycle, false) ∷
+    (codes "no cycle yet", ran ∷ gc Waiting ∷ [], false) ∷
+    [])
+open_cycles = refl
 
 bound : most_working 64 3 ≡ 1091
 bound = refl
@@ -147,28 +130,24 @@ ended_cycle = record { whole = refl; none_was_open = refl; begins = refl; newest
 
 -- ---- the steps among events
 
-steps_alone : thread_part (ran ∷ gc Worked ∷ ack Acked ∷ (Step 3, Absent) ∷ []) ≡ (0, false) ∷ (3, false) ∷ []
-steps_alone = refl
-
-refused_birth : thread_part ((Step 1, Ended (Fault OutOfMemory)) ∷ []) ≡ (1, true) ∷ []
-refused_birth = refl
-
-no_birth_was_due : thread_part ((Step 1, Ended (Fault TooManyThreads)) ∷ []) ≡ (1, false) ∷ []
-no_birth_was_due = refl
+steps_among_events : Answers thread_part (
+    (codes "steps alone", ran ∷ gc Worked ∷ ack Acked ∷ (Step 3, Absent) ∷ [], (0, false) ∷ (3, false) ∷ []) ∷
+    (codes "refused birth", (Step 1, Ended (Fault OutOfMemory)) ∷ [], (1, true) ∷ []) ∷
+    (codes "no birth was due", (Step 1, Ended (Fault TooManyThreads)) ∷ [], (1, false) ∷ []) ∷
+    [])
+steps_among_events = refl
 
 reports_of_steps : step_reports (ran ∷ gc Worked ∷ ack NothingPosted ∷ (Step 3, Absent) ∷ []) ≡ Ran ∷ Absent ∷ []
 reports_of_steps = refl
 
 -- ---- what is reachable, and the words of cells
 
-cell_of_dog : cell_words farm (Instance dog animal_fields) ≡ 6
-cell_of_dog = refl
-
-cell_of_thread : cell_words farm (Instance (named (codes "T")) []) ≡ 4
-cell_of_thread = refl
-
-cell_of_array : cell_words farm (Array (plain Int32) (int 1 ∷ int 2 ∷ [])) ≡ 5
-cell_of_array = refl
+words_of_cells : Answers (cell_words farm) (
+    (codes "cell of dog", Instance dog animal_fields, 6) ∷
+    (codes "cell of thread", Instance (named (codes "T")) [], 4) ∷
+    (codes "cell of array", Array (plain Int32) (int 1 ∷ int 2 ∷ []), 5) ∷
+    [])
+words_of_cells = refl
 
 -- thread 0 holds the `Dog[]`, whose second element is the Dog
 abbrev held : State
@@ -182,20 +161,14 @@ dog_is_reachable = from_member (Born 2) (Born 0) array_is_reachable (1, lit< tt,
 
 -- ---- limits
 
-usual_in_range : are_in_range usual_limits ≡ true
-usual_in_range = refl
-
-no_budget : are_in_range (record usual_limits { budget = 0 }) ≡ false
-no_budget = refl
-
-largest : are_in_range (record { words = 1048576; max_words = 1048576; budget = 1000000; depth = 256 }) ≡ true
-largest = refl
-
-too_few_words : are_in_range (record usual_limits { words = 63 }) ≡ false
-too_few_words = refl
-
-too_deep : are_in_range (record usual_limits { depth = 257 }) ≡ false
-too_deep = refl
+limits_in_range : Answers are_in_range (
+    (codes "usual in range", usual_limits, true) ∷
+    (codes "no budget", record usual_limits { budget = 0 }, false) ∷
+    (codes "largest", record { words = 1048576; max_words = 1048576; budget = 1000000; depth = 256 }, true) ∷
+    (codes "too few words", record usual_limits { words = 63 }, false) ∷
+    (codes "too deep", record usual_limits { depth = 257 }, false) ∷
+    [])
+limits_in_range = refl
 
 short_enough : is_too_long sum_source ≡ false
 short_enough = refl

@@ -12,6 +12,7 @@ use Rattle.cil_model.specs.Declarations.{object_name, console_name, thread_name,
 use Rattle.cil_model.specs.Fields.{FieldKey}
 use Rattle.reference_machine.specs.Values.{Value, Born, Literal, Null}
 use Rattle.reference_machine.specs.States.{Free, Held, Instance}
+use Rattle.definition_tests.proofs.Samples.Tables.{PairAnswers}
 use Rattle.definition_tests.proofs.Samples.Programs.{named, no_types, reference_to, call_monitor, on_thread}
 use Rattle.definition_tests.proofs.Samples.FarmProgram.{animal, dog, cat, runner, method_g, method_h, int, minus, long, object, text, key, heap_object, Leaves, Calls, Finishes, Waits, Faults, NoMeaning, does, does_refused, does_deep, returns, monitor_after, printed_after, born_after}
 
@@ -39,52 +40,36 @@ fields_at_first = (key (codes "age"), int 0) ∷ (key (codes "weight"), long 0) 
 
 -- ---- call
 
-calls : does call_g (int 5 ∷ object 0 ∷ int 1 ∷ []) ≡ Calls animal (object 0 ∷ int 1 ∷ [])
+calls : PairAnswers does (
+    (codes "calls", call_g, int 5 ∷ object 0 ∷ int 1 ∷ [], Calls animal (object 0 ∷ int 1 ∷ [])) ∷
+    (codes "calls on null", call_g, Null ∷ int 1 ∷ [], Calls animal (Null ∷ int 1 ∷ [])) ∷
+    (codes "calls static", call_h, object 0 ∷ [], Calls animal (object 0 ∷ [])) ∷
+    (codes "call with too few", call_g, int 1 ∷ [], NoMeaning) ∷
+    (codes "call with other kind", call_g, object 0 ∷ long 1 ∷ [], NoMeaning) ∷
+    (codes "call of nothing", Call false (reference_to dog (Named (codes "k")) []), [], NoMeaning) ∷
+    (codes "call of abstract", Call true (reference_to runner (Named (codes "f")) []), object 0 ∷ [], NoMeaning) ∷
+    [])
 calls = refl
-
-calls_on_null : does call_g (Null ∷ int 1 ∷ []) ≡ Calls animal (Null ∷ int 1 ∷ [])
-calls_on_null = refl
-
-calls_static : does call_h (object 0 ∷ []) ≡ Calls animal (object 0 ∷ [])
-calls_static = refl
 
 call_too_deep : does_deep call_g (object 0 ∷ int 1 ∷ []) ≡ Faults StackOverflow
 call_too_deep = refl
 
-call_with_too_few : does call_g (int 1 ∷ []) ≡ NoMeaning
-call_with_too_few = refl
-
-call_with_other_kind : does call_g (object 0 ∷ long 1 ∷ []) ≡ NoMeaning
-call_with_other_kind = refl
-
-call_of_nothing : does (Call false (reference_to dog (Named (codes "k")) [])) [] ≡ NoMeaning
-call_of_nothing = refl
-
-call_of_abstract : does (Call true (reference_to runner (Named (codes "f")) [])) (object 0 ∷ []) ≡ NoMeaning
-call_of_abstract = refl
-
 -- ---- callvirt: null is looked at before the depth
 
-runs_target : does run_f (object 0 ∷ []) ≡ Calls dog (object 0 ∷ [])
-runs_target = refl
-
-runs_plain_method : does virtual_g (object 0 ∷ int 1 ∷ []) ≡ Calls animal (object 0 ∷ int 1 ∷ [])
-runs_plain_method = refl
-
-runs_plain_method_on_array : does virtual_g (object 1 ∷ int 1 ∷ []) ≡ Calls animal (object 1 ∷ int 1 ∷ [])
-runs_plain_method_on_array = refl
+virtual_calls : PairAnswers does (
+    (codes "runs target", run_f, object 0 ∷ [], Calls dog (object 0 ∷ [])) ∷
+    (codes "runs plain method", virtual_g, object 0 ∷ int 1 ∷ [], Calls animal (object 0 ∷ int 1 ∷ [])) ∷
+    (codes "runs plain method on array", virtual_g, object 1 ∷ int 1 ∷ [], Calls animal (object 1 ∷ int 1 ∷ [])) ∷
+    (codes "runs plain method on null", virtual_g, Null ∷ int 1 ∷ [], Faults NullReference) ∷
+    (codes "runs without target", run_f, object 3 ∷ [], NoMeaning) ∷
+    [])
+virtual_calls = refl
 
 runs_on_null : does_deep run_f (Null ∷ []) ≡ Faults NullReference
 runs_on_null = refl
 
-runs_plain_method_on_null : does virtual_g (Null ∷ int 1 ∷ []) ≡ Faults NullReference
-runs_plain_method_on_null = refl
-
 runs_too_deep : does_deep run_f (object 0 ∷ []) ≡ Faults StackOverflow
 runs_too_deep = refl
-
-runs_without_target : does run_f (object 3 ∷ []) ≡ NoMeaning
-runs_without_target = refl
 
 -- ---- newobj: the depth is looked at before memory
 
@@ -100,17 +85,15 @@ construct_too_deep = refl
 construct_refused : does_refused (NewObject cat []) [] ≡ Faults OutOfMemory
 construct_refused = refl
 
-built_in_at_once : does (NewObject object_name []) (int 1 ∷ []) ≡ Leaves (int 1 ∷ object 10 ∷ [])
-built_in_at_once = refl
+constructor_calls : PairAnswers does (
+    (codes "built in at once", NewObject object_name [], int 1 ∷ [], Leaves (int 1 ∷ object 10 ∷ [])) ∷
+    (codes "thread object at once", NewObject thread_name [], [], Leaves (object 10 ∷ [])) ∷
+    (codes "no constructor", NewObject cat (plain Object ∷ []), Null ∷ [], NoMeaning) ∷
+    [])
+constructor_calls = refl
 
 built_in_not_too_deep : does_deep (NewObject object_name []) [] ≡ Faults OutOfMemory
 built_in_not_too_deep = refl
-
-thread_object_at_once : does (NewObject thread_name []) [] ≡ Leaves (object 10 ∷ [])
-thread_object_at_once = refl
-
-no_constructor : does (NewObject cat (plain Object ∷ [])) (Null ∷ []) ≡ NoMeaning
-no_constructor = refl
 
 -- ---- ret
 
@@ -165,58 +148,34 @@ enters_again = refl
 enters_literal : monitor_after (Literal (codes "a")) (call_monitor (codes "Enter")) (text (codes "a") ∷ []) ≡ Some (Held 0 1)
 enters_literal = refl
 
-waits : does (call_monitor (codes "Enter")) (object 9 ∷ []) ≡ Waits
-waits = refl
-
-enters_null : does (call_monitor (codes "Enter")) (Null ∷ []) ≡ Faults ArgumentNull
-enters_null = refl
-
 exits_once : monitor_after (Born 8) (call_monitor (codes "Exit")) (object 8 ∷ []) ≡ Some (Held 0 1)
 exits_once = refl
 
-exits_free : does (call_monitor (codes "Exit")) (object 0 ∷ []) ≡ Faults SynchronizationLock
-exits_free = refl
-
-exits_of_other : does (call_monitor (codes "Exit")) (object 9 ∷ []) ≡ Faults SynchronizationLock
-exits_of_other = refl
-
-exits_null : does (call_monitor (codes "Exit")) (Null ∷ []) ≡ Faults ArgumentNull
-exits_null = refl
+calls_on_monitors : PairAnswers does (
+    (codes "waits", call_monitor (codes "Enter"), object 9 ∷ [], Waits) ∷
+    (codes "enters null", call_monitor (codes "Enter"), Null ∷ [], Faults ArgumentNull) ∷
+    (codes "exits free", call_monitor (codes "Exit"), object 0 ∷ [], Faults SynchronizationLock) ∷
+    (codes "exits of other", call_monitor (codes "Exit"), object 9 ∷ [], Faults SynchronizationLock) ∷
+    (codes "exits null", call_monitor (codes "Exit"), Null ∷ [], Faults ArgumentNull) ∷
+    [])
+calls_on_monitors = refl
 
 -- ---- start and join: null, then whether it was started
 
-starts : does (on_thread (codes "Start")) (object 4 ∷ []) ≡ Leaves []
-starts = refl
-
-starts_null : does (on_thread (codes "Start")) (Null ∷ []) ≡ Faults NullReference
-starts_null = refl
-
-starts_null_by_call : does (Call true (reference_to thread_name (Named (codes "Start")) [])) (Null ∷ []) ≡ Faults NullReference
-starts_null_by_call = refl
-
-starts_again : does (on_thread (codes "Start")) (object 6 ∷ []) ≡ Faults ThreadState
-starts_again = refl
-
-starts_no_thread : does (on_thread (codes "Start")) (object 0 ∷ []) ≡ NoMeaning
-starts_no_thread = refl
-
-joins_live : does (on_thread (codes "Join")) (object 5 ∷ []) ≡ Waits
-joins_live = refl
-
-joins_ended : does (on_thread (codes "Join")) (int 1 ∷ object 6 ∷ []) ≡ Leaves (int 1 ∷ [])
-joins_ended = refl
-
-joins_unstarted : does (on_thread (codes "Join")) (object 4 ∷ []) ≡ Faults ThreadState
-joins_unstarted = refl
-
-joins_null : does (on_thread (codes "Join")) (Null ∷ []) ≡ Faults NullReference
-joins_null = refl
-
-runs_thread_method : does (on_thread (codes "Run")) (object 4 ∷ []) ≡ Calls (named (codes "T")) (object 4 ∷ [])
-runs_thread_method = refl
-
-calls_built_in_run : does (Call true (reference_to thread_name (Named (codes "Run")) [])) (Null ∷ []) ≡ Calls thread_name (Null ∷ [])
-calls_built_in_run = refl
+start_and_join : PairAnswers does (
+    (codes "starts", on_thread (codes "Start"), object 4 ∷ [], Leaves []) ∷
+    (codes "starts null", on_thread (codes "Start"), Null ∷ [], Faults NullReference) ∷
+    (codes "starts null by call", Call true (reference_to thread_name (Named (codes "Start")) []), Null ∷ [], Faults NullReference) ∷
+    (codes "starts again", on_thread (codes "Start"), object 6 ∷ [], Faults ThreadState) ∷
+    (codes "starts no thread", on_thread (codes "Start"), object 0 ∷ [], NoMeaning) ∷
+    (codes "joins live", on_thread (codes "Join"), object 5 ∷ [], Waits) ∷
+    (codes "joins ended", on_thread (codes "Join"), int 1 ∷ object 6 ∷ [], Leaves (int 1 ∷ [])) ∷
+    (codes "joins unstarted", on_thread (codes "Join"), object 4 ∷ [], Faults ThreadState) ∷
+    (codes "joins null", on_thread (codes "Join"), Null ∷ [], Faults NullReference) ∷
+    (codes "runs thread method", on_thread (codes "Run"), object 4 ∷ [], Calls (named (codes "T")) (object 4 ∷ [])) ∷
+    (codes "calls built in run", Call true (reference_to thread_name (Named (codes "Run")) []), Null ∷ [], Calls thread_name (Null ∷ [])) ∷
+    [])
+start_and_join = refl
 
 built_in_run_too_deep : does_deep (Call true (reference_to thread_name (Named (codes "Run")) [])) (Null ∷ []) ≡ Faults StackOverflow
 built_in_run_too_deep = refl
