@@ -61,110 +61,72 @@ const TWICE: Monitor = Monitor::Held { owner: 4, count: 2 };
 
 const THRICE: Monitor = Monitor::Held { owner: 5, count: 3 };
 
+/// Between cycles: each barrier acts on the copy that it is given.
+const ON_ONE_COPY: Observation = Observation {
+    phase: Phase::Idle,
+    old: [GUEST, 0, WHITE, 0, 9, 0],
+    new: [0, GUEST, 0, TEXT, 0, 8],
+    marks: [false, false],
+    has_marked: false,
+    grey: [0, 0, 0, 0],
+    monitors: [ONCE, FREE, FREE, TWICE, THRICE],
+    statics: [PALE, GUEST],
+    same: [false, false, true],
+    born: [BORN, 0],
+    born_marks: [false, false],
+};
+
+/// While objects are copied: each barrier acts on both copies.
+const ON_BOTH_COPIES: Observation = Observation {
+    phase: Phase::Copy,
+    old: [GUEST, GUEST, WHITE, TEXT, 9, 8],
+    new: [GUEST_COPIED, GUEST_COPIED, WHITE, TEXT, 9, 8],
+    monitors: [ONCE, ONCE, TWICE, TWICE, THRICE],
+    same: [true, false, true],
+    born: [BORN, BORN_COPIED],
+    born_marks: [true, true],
+    ..ON_ONE_COPY
+};
+
 const EXPECTED: [Observation; 8] = [
-    Observation {
-        phase: Phase::Idle,
-        old: [GUEST, 0, WHITE, 0, 9, 0],
-        new: [0, GUEST, 0, TEXT, 0, 8],
-        marks: [false, false],
-        has_marked: false,
-        grey: [0, 0, 0, 0],
-        monitors: [ONCE, FREE, FREE, TWICE, THRICE],
-        statics: [PALE, GUEST],
-        same: [false, false, true],
-        born: [BORN, 0],
-        born_marks: [false, false],
-    },
+    ON_ONE_COPY,
     Observation {
         phase: Phase::Mark,
-        old: [GUEST, 0, WHITE, 0, 9, 0],
-        new: [0, GUEST, 0, TEXT, 0, 8],
         marks: [true, true],
         has_marked: true,
         grey: [WHITE, PALE, BORN, 0],
-        monitors: [ONCE, FREE, FREE, TWICE, THRICE],
-        statics: [PALE, GUEST],
-        same: [false, false, true],
-        born: [BORN, 0],
         born_marks: [true, false],
+        ..ON_ONE_COPY
     },
     Observation {
         phase: Phase::Allocate,
-        old: [GUEST, 0, WHITE, 0, 9, 0],
-        new: [0, GUEST, 0, TEXT, 0, 8],
-        marks: [false, false],
-        has_marked: false,
-        grey: [0, 0, 0, 0],
-        monitors: [ONCE, FREE, FREE, TWICE, THRICE],
-        statics: [PALE, GUEST],
-        same: [false, false, true],
         born: [BORN, BORN_COPIED],
         born_marks: [true, true],
+        ..ON_ONE_COPY
     },
-    Observation {
-        phase: Phase::Copy,
-        old: [GUEST, GUEST, WHITE, TEXT, 9, 8],
-        new: [GUEST_COPIED, GUEST_COPIED, WHITE, TEXT, 9, 8],
-        marks: [false, false],
-        has_marked: false,
-        grey: [0, 0, 0, 0],
-        monitors: [ONCE, ONCE, TWICE, TWICE, THRICE],
-        statics: [PALE, GUEST],
-        same: [true, false, true],
-        born: [BORN, BORN_COPIED],
-        born_marks: [true, true],
-    },
+    ON_BOTH_COPIES,
     Observation {
         phase: Phase::PreFlip,
-        old: [GUEST, GUEST, WHITE, TEXT, 9, 8],
-        new: [GUEST_COPIED, GUEST_COPIED, WHITE, TEXT, 9, 8],
-        marks: [false, false],
-        has_marked: false,
-        grey: [0, 0, 0, 0],
-        monitors: [ONCE, ONCE, TWICE, TWICE, THRICE],
         statics: [PALE, GUEST_COPIED],
-        same: [true, false, true],
-        born: [BORN, BORN_COPIED],
-        born_marks: [true, true],
+        ..ON_BOTH_COPIES
     },
     Observation {
         phase: Phase::HeapFlip,
-        old: [GUEST, GUEST, WHITE, TEXT, 9, 8],
-        new: [GUEST_COPIED, GUEST_COPIED, WHITE, TEXT, 9, 8],
-        marks: [false, false],
-        has_marked: false,
-        grey: [0, 0, 0, 0],
-        monitors: [ONCE, ONCE, TWICE, TWICE, THRICE],
         statics: [PALE, GUEST_COPIED],
-        same: [true, false, true],
-        born: [BORN, BORN_COPIED],
-        born_marks: [true, true],
+        ..ON_BOTH_COPIES
     },
     Observation {
         phase: Phase::ThreadFlip,
-        old: [GUEST, GUEST, WHITE, TEXT, 9, 8],
         new: [GUEST, GUEST, WHITE, TEXT, 9, 8],
-        marks: [false, false],
-        has_marked: false,
-        grey: [0, 0, 0, 0],
-        monitors: [ONCE, ONCE, TWICE, TWICE, THRICE],
-        statics: [PALE, GUEST],
         same: [false, false, true],
         born: [BORN_COPIED, 0],
         born_marks: [false, false],
+        ..ON_BOTH_COPIES
     },
     Observation {
         phase: Phase::Reclaim,
-        old: [GUEST, 0, WHITE, 0, 9, 0],
-        new: [0, GUEST, 0, TEXT, 0, 8],
-        marks: [false, false],
-        has_marked: false,
-        grey: [0, 0, 0, 0],
-        monitors: [ONCE, FREE, FREE, TWICE, THRICE],
-        statics: [PALE, GUEST],
-        same: [false, false, true],
         born: [BORN_COPIED, 0],
-        born_marks: [false, false],
+        ..ON_ONE_COPY
     },
 ];
 

@@ -99,8 +99,8 @@ abbrev pub with_output : App → App
 with_output a = with_rule a (number_rule (codes "output") LEAST_OUTPUT MOST_OUTPUT)
 
 -- the options of what a run prints
-abbrev pub with_printed : App → App
-with_printed a = with_stats (with_output a)
+abbrev pub with_print_options : App → App
+with_print_options a = with_stats (with_output a)
 
 -- a command that takes a source
 abbrev pub with_source : Text → App
@@ -114,10 +114,10 @@ abbrev pub check_app : App
 check_app = with_explain (with_source (codes "check"))
 
 abbrev pub run_app : App
-run_app = with_run_options (with_printed (with_rule (with_source (codes "run")) (required_rule (text_rule (codes "schedule")))))
+run_app = with_run_options (with_print_options (with_rule (with_source (codes "run")) (required_rule (text_rule (codes "schedule")))))
 
 abbrev pub replay_app : App
-replay_app = with_given_limits (with_explain (with_printed (with_files (codes "replay"))))
+replay_app = with_given_limits (with_explain (with_print_options (with_files (codes "replay"))))
 
 abbrev pub trace_app : App
 trace_app = with_given_limits (with_explain (with_files (codes "trace")))
@@ -132,7 +132,7 @@ picture_app = with_given_limits (with_explain (with_part (with_files (codes "pic
 
 -- 1 to 16 workers, 1 where none is said, perhaps the file of a record, and whether a deadlock ends the run
 abbrev pub threads_app : App
-threads_app = with_run_options (with_printed (with_rule (with_rule (with_rule (with_source (codes "threads"))
+threads_app = with_run_options (with_print_options (with_rule (with_rule (with_rule (with_source (codes "threads"))
     (with_default (codes "1") (number_rule (codes "workers") 1 16))) (text_rule (codes "record")))
     (flag_rule (codes "stop-at-deadlock"))))
 
@@ -160,7 +160,7 @@ with_version a = record a { top = record a.top { has_version = true } }
 abbrev pub with_runs : App → App
 with_runs a = with_subcommand (with_subcommand (with_subcommand (with_subcommand a check_app.top) threads_app.top) run_app.top) replay_app.top
 
--- those that show runs
+-- those that show runs, and `flip`, which needs no source
 abbrev pub with_views : App → App
 with_views a = with_subcommand (with_subcommand (with_subcommand (with_subcommand a trace_app.top) picture_app.top) explore_app.top) flip_app.top
 

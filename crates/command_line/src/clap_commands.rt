@@ -4,7 +4,7 @@ ghost use Rattle.clap.specs.Words.{App, Rule, app_of, new_app, with_rule, with_s
 ghost use Rattle.clap.specs.declared.builder.value_parser.ValueParser.TheVariants as vp;
 ghost use Rattle.command_line.specs.CommandLine.{IsArgument, IsCommand, check_app, cilvm_app, explore_app, file_rule, flag_rule};
 ghost use Rattle.command_line.specs.CommandLine.{flip_app, required_rule, number_rule, picture_app, replay_app, run_app, text_rule, threads_app, trace_app, with_default};
-ghost use Rattle.command_line.specs.CommandLine.{with_explain, with_files, with_given_limits, with_limits, with_output, with_part, with_printed, with_required_subcommand, with_run_options, with_runs, with_source, with_stats, with_version, with_views};
+ghost use Rattle.command_line.specs.CommandLine.{with_explain, with_files, with_given_limits, with_limits, with_output, with_part, with_print_options, with_required_subcommand, with_run_options, with_runs, with_source, with_stats, with_version, with_views};
 
 use crate::version::VERSION;
 use cil_model::limits::{LEAST_WORDS, MOST_BUDGET, MOST_DEPTH, MOST_WORDS};
@@ -280,11 +280,11 @@ fn with_given_limits<'a>(
 }
 
 /// The options of what a run prints: the most bytes of its program, and its numbers.
-fn with_printed<'a>(
+fn with_print_options<'a>(
     alloc: Global,
     command: Result<Command<'a>, AllocError>,
 ) -> Result<Command<'a>, AllocError>
-    ensures { (app : App) → IfOk command.entry (IsCommand app) → IfOk result (IsCommand (with_printed app)) }
+    ensures { (app : App) → IfOk command.entry (IsCommand app) → IfOk result (IsCommand (with_print_options app)) }
 {
     with_stats(alloc, with_output(alloc, command))
 }
@@ -336,7 +336,7 @@ pub fn threads_command<'a>(alloc: Global) -> Result<Command<'a>, AllocError>
         "stop-at-deadlock",
         "Stops also once all live threads wait for one another, and explains that",
     );
-    let command = with_printed(alloc, with_argument(command, stop));
+    let command = with_print_options(alloc, with_argument(command, stop));
     with_run_options(alloc, command, EXPLAIN_RUN)
 }
 
@@ -355,7 +355,7 @@ fn run_command<'a>(alloc: Global) -> Result<Command<'a>, AllocError>
         "EVENTS",
         "The events in their order, as 's0*5 g a0'",
     );
-    let command = with_printed(alloc, with_argument(command, schedule));
+    let command = with_print_options(alloc, with_argument(command, schedule));
     with_run_options(alloc, command, EXPLAIN_RUN)
 }
 
@@ -368,7 +368,7 @@ fn replay_command<'a>(alloc: Global) -> Result<Command<'a>, AllocError>
         "Runs a source by a schedule that a file holds",
         "The file has the events in the form that 'cilvm run --help' describes, on as many lines as you like. Where a file SCHEDULE.run is beside it, as 'cilvm threads --record' writes one, it has the limits of the recorded run, and another source, other limits or another output are reported, with status 6.\n\nExample, which prints 5:\n  cilvm replay examples/add.il examples/add.schedule",
     );
-    let command = with_explain(alloc, with_printed(alloc, command), EXPLAIN_RUN);
+    let command = with_explain(alloc, with_print_options(alloc, command), EXPLAIN_RUN);
     with_given_limits(alloc, command)
 }
 

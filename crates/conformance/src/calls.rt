@@ -18,9 +18,15 @@ pub fn try_calls(
 ) -> io::Result<usize> {
     let made = calls(threads, rt.alloc());
     let runs = RunCalls::new(threads, rt.alloc());
-    let mut count = made.len();
-    let mut differing = report_all(rt, &made)?;
-    for group in runs.groups() {
+    let groups = [
+        made.as_slice(),
+        runs.machines.as_slice(),
+        runs.loans.as_slice(),
+        runs.workers.as_slice(),
+    ];
+    let mut count = 0usize;
+    let mut differing = 0usize;
+    for group in groups {
         count = count.saturating_add(group.len());
         differing = differing.saturating_add(report_all(rt, group)?);
     }
@@ -68,7 +74,7 @@ fn write_report(rt: &HostRuntime, name: &str, is_as_expected: bool) -> io::Resul
     Ok(1)
 }
 
-/// Carries out a command on a source with a schedule, on two writers, and returns its status.
+/// Carries out a command on a source with the schedule `s0*3`, on two writers, and returns its status.
 fn status_of<W: Write + Drop, E: Write + Drop>(
     threads: &(impl Threads + Wait + Clock + Sync),
     alloc: Global,

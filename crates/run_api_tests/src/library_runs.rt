@@ -29,9 +29,10 @@ use std::thread::Threads;
 /// The calls, each with its outcome.
 #[derive(Clone, Copy)]
 pub struct RunCalls {
-    machines: [Call; 7],
-    loans: [Call; 7],
-    workers: [Call; 11],
+    /// On readers that fail, on histories, and on a machine that two workers share.
+    pub machines: [Call; 7],
+    pub loans: [Call; 7],
+    pub workers: [Call; 11],
 }
 
 impl RunCalls {
@@ -42,15 +43,6 @@ impl RunCalls {
             loans: loan_calls(threads, alloc),
             workers: worker_calls(threads, alloc),
         }
-    }
-
-    /// All calls, in groups.
-    pub fn groups(&self) -> [&[Call]; 3] {
-        [
-            self.machines.as_slice(),
-            self.loans.as_slice(),
-            self.workers.as_slice(),
-        ]
     }
 }
 
