@@ -7,7 +7,7 @@ use Rattle.cil_model.specs.declared.types.Element.TheVariants.{String, Class}
 use Rattle.cil_model.specs.declared.trees.Tree.{Tree}
 use Rattle.cil_model.specs.declared.trees.Method.{Method}
 use Rattle.cil_model.specs.Declarations.{Declaration, plain, object_name, console_name, monitor_name, thread_name, object_constructor, run_method}
-use Rattle.cil_model.specs.Chains.{methods_declared, listed_by}
+use Rattle.cil_model.specs.Chains.{is_virtual, methods_declared, listed_by}
 use Rattle.cil_model.specs.Assignable.{is_reference}
 use Rattle.cil_model.specs.Bodies.{argument_types}
 use Rattle.reference_machine.specs.BuiltIn.{Action, Construct, Write, Enter, Exit, Start, Join, action_of}
@@ -24,12 +24,13 @@ IsOperandOf Exit t = IsTrue (is_reference t)
 IsOperandOf Start t = t ≡ plain (Class thread_name)
 IsOperandOf Join t = t ≡ plain (Class thread_name)
 
--- a member that takes one operand, and returns nothing
+-- a member that takes one operand, returns nothing and is not virtual
 pub record IsMember (a : Action) (c : ClassName) (m : Method) : Type 0 where
   pub operand : DeclaredType
   pub takes : argument_types m c ≡ operand ∷ []
   pub fits : IsOperandOf a operand
   pub nothing_returned : m.signature.return_type ≡ None
+  pub not_virtual : is_virtual m.kind ≡ false
 
 -- what is equal to a member is one
 same_member : (c : ClassName) (m m' : Method) (a b : Action) → action_of c m ≡ Some a → IsMember a c m → m ≡ m' → action_of c m' ≡ Some b → IsMember b c m'
@@ -39,25 +40,25 @@ same_member c m m' a b acts member e h =
 module _ (tree : Tree) (m : Method) (a : Action) where
   -- the members of each built-in class
   member_of_object : (n : ℕ) → slice_get (methods_declared tree object_name) n ≡ Some m → action_of object_name m ≡ Some a → IsMember a object_name m
-  member_of_object zero e h = same_member object_name object_constructor m Construct a refl (record { operand = _; takes = refl; fits = tt; nothing_returned = refl }) (same_Some object_constructor m e) h
+  member_of_object zero e h = same_member object_name object_constructor m Construct a refl (record { operand = _; takes = refl; fits = tt; nothing_returned = refl; not_virtual = refl }) (same_Some object_constructor m e) h
   member_of_object (suc n) e h = none_is_some m e
 
   member_of_console : (n : ℕ) → slice_get (methods_declared tree console_name) n ≡ Some m → action_of console_name m ≡ Some a → IsMember a console_name m
-  member_of_console (suc (suc zero)) e h = same_member console_name _ m Write a refl (record { operand = _; takes = refl; fits = inr refl; nothing_returned = refl }) (same_Some _ m e) h
+  member_of_console (suc (suc zero)) e h = same_member console_name _ m Write a refl (record { operand = _; takes = refl; fits = inr refl; nothing_returned = refl; not_virtual = refl }) (same_Some _ m e) h
   member_of_console (suc (suc (suc n))) e h = none_is_some m e
-  member_of_console _ e h = same_member console_name _ m Write a refl (record { operand = _; takes = refl; fits = inl refl; nothing_returned = refl }) (same_Some _ m e) h
+  member_of_console _ e h = same_member console_name _ m Write a refl (record { operand = _; takes = refl; fits = inl refl; nothing_returned = refl; not_virtual = refl }) (same_Some _ m e) h
 
   member_of_monitor : (n : ℕ) → slice_get (methods_declared tree monitor_name) n ≡ Some m → action_of monitor_name m ≡ Some a → IsMember a monitor_name m
-  member_of_monitor zero e h = same_member monitor_name _ m Enter a refl (record { operand = _; takes = refl; fits = refl; nothing_returned = refl }) (same_Some _ m e) h
-  member_of_monitor (suc zero) e h = same_member monitor_name _ m Exit a refl (record { operand = _; takes = refl; fits = refl; nothing_returned = refl }) (same_Some _ m e) h
+  member_of_monitor zero e h = same_member monitor_name _ m Enter a refl (record { operand = _; takes = refl; fits = refl; nothing_returned = refl; not_virtual = refl }) (same_Some _ m e) h
+  member_of_monitor (suc zero) e h = same_member monitor_name _ m Exit a refl (record { operand = _; takes = refl; fits = refl; nothing_returned = refl; not_virtual = refl }) (same_Some _ m e) h
   member_of_monitor (suc (suc n)) e h = none_is_some m e
 
   -- all but Run act at once
   member_of_thread : (n : ℕ) → slice_get (methods_declared tree thread_name) n ≡ Some m → action_of thread_name m ≡ Some a → IsMember a thread_name m
-  member_of_thread zero e h = same_member thread_name object_constructor m Construct a refl (record { operand = _; takes = refl; fits = tt; nothing_returned = refl }) (same_Some object_constructor m e) h
+  member_of_thread zero e h = same_member thread_name object_constructor m Construct a refl (record { operand = _; takes = refl; fits = tt; nothing_returned = refl; not_virtual = refl }) (same_Some object_constructor m e) h
   member_of_thread (suc zero) e h = none_is_some a (subst (λ x. action_of thread_name x ≡ Some a) (sym (same_Some run_method m e)) h)
-  member_of_thread (suc (suc zero)) e h = same_member thread_name _ m Start a refl (record { operand = _; takes = refl; fits = refl; nothing_returned = refl }) (same_Some _ m e) h
-  member_of_thread (suc (suc (suc zero))) e h = same_member thread_name _ m Join a refl (record { operand = _; takes = refl; fits = refl; nothing_returned = refl }) (same_Some _ m e) h
+  member_of_thread (suc (suc zero)) e h = same_member thread_name _ m Start a refl (record { operand = _; takes = refl; fits = refl; nothing_returned = refl; not_virtual = refl }) (same_Some _ m e) h
+  member_of_thread (suc (suc (suc zero))) e h = same_member thread_name _ m Join a refl (record { operand = _; takes = refl; fits = refl; nothing_returned = refl; not_virtual = refl }) (same_Some _ m e) h
   member_of_thread (suc (suc (suc (suc n)))) e h = none_is_some m e
 
   -- no class but a built-in one has a member that acts

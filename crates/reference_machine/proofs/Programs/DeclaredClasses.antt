@@ -100,24 +100,16 @@ module _ (tree : Tree) where
     where
       by_thread_status : {c : ClassName} → ThreadStatus c → is_interface tree c ≡ true → (x : Class) × (source_class tree c ≡ Some x) × IsTrue (is_interface_kind x.kind)
       by_thread_status {c} (of_source x found) k = (x, found, sym (ap (λ o. option_map_or (λ (d : Declaration). d.is_interface) o false) (source_declares c x found)) ∙ k)
-      by_thread_status of_object k = never k
-      by_thread_status of_string k = never k
-      by_thread_status of_console k = never k
-      by_thread_status of_monitor k = never k
-      by_thread_status of_thread k = never k
       by_thread_status (of_none e) k = never (sym (ap (λ o. option_map_or (λ (d : Declaration). d.is_interface) o false) e) ∙ k)
+      by_thread_status _ k = never k
 
   pub implementer_is_source : (k i : ClassName) → IsTrue (list_any (same_class i) (interfaces_declared tree k)) → (x : Class) × (source_class tree k ≡ Some x) × IsTrue (list_any (same_class i) (interfaces_named x.kind))
   implementer_is_source k i h = by_thread_status (thread_status k) h
     where
       by_thread_status : {k : ClassName} → ThreadStatus k → IsTrue (list_any (same_class i) (interfaces_declared tree k)) → (x : Class) × (source_class tree k ≡ Some x) × IsTrue (list_any (same_class i) (interfaces_named x.kind))
       by_thread_status {k} (of_source x found) t = (x, found, subst (λ o. IsTrue (list_any (same_class i) (listed_by (λ (d : Declaration). d.interfaces) o))) (source_declares k x found) t)
-      by_thread_status of_object t = never t
-      by_thread_status of_string t = never t
-      by_thread_status of_console t = never t
-      by_thread_status of_monitor t = never t
-      by_thread_status of_thread t = never t
       by_thread_status (of_none e) t = never (subst (λ o. IsTrue (list_any (same_class i) (listed_by (λ (d : Declaration). d.interfaces) o))) e t)
+      by_thread_status _ t = never t
 
   kind_has_no_base : (k : ClassKind) → IsTrue (is_interface_kind k) → base_named k ≡ None
   kind_has_no_base Interface h = refl
@@ -177,12 +169,8 @@ module _ (tree : Tree) where
         by_thread_status {c} (of_source x found) =
             let single : class_doubles x ≡ false = found_fails (λ k. same_class (source_name k) c) class_doubles tree.classes x found none_doubles in
             ap (has_repeat same_method) (source_methods c x found) ∙ (or_parts _ _ (or_parts _ _ (or_parts _ _ single).0).0).1
-        by_thread_status of_object = refl
-        by_thread_status of_string = refl
-        by_thread_status of_console = refl
-        by_thread_status of_monitor = refl
-        by_thread_status of_thread = refl
         by_thread_status (of_none e) = ap (λ o. has_repeat same_method (listed_by (λ (d : Declaration). d.methods) o)) e
+        by_thread_status _ = refl
 
     -- what a class lists is an interface
     pub listed_is_interface : (k i : ClassName) → IsTrue (list_any (same_class i) (interfaces_declared tree k)) → is_interface tree i ≡ true
@@ -240,9 +228,5 @@ module _ (tree : Tree) where
             let fits : IsTrue (kinds_fit tree x) = found_passes (λ y. same_class (source_name y) d) (kinds_fit tree) tree.classes x found all_kinds_fit in
             let concrete : IsTrue (not (is_abstract_kind x.kind)) = subst (λ o. IsTrue (option_map_or (λ (e : Declaration). not e.is_abstract) o false)) (source_declares d x found) c in
             subst (λ z. has_abstract_slot tree z ≡ false) (source_is_named d x found) (by_kind x.kind _ _ _ _ concrete fits)
-        by_thread_status of_object c = refl
-        by_thread_status of_string c = refl
-        by_thread_status of_console c = refl
-        by_thread_status of_monitor c = refl
-        by_thread_status of_thread c = refl
         by_thread_status (of_none e) c = never (subst (λ o. IsTrue (option_map_or (λ (k : Declaration). not k.is_abstract) o false)) e c)
+        by_thread_status _ c = refl

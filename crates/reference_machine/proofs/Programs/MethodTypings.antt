@@ -1,31 +1,28 @@
 -- A method that is found is declared, and one that is declared and gets a frame has a typing in an accepted program.
-use Rattle.std.proofs.Common.{◌≡◌, ◌⊎◌, ℕ, zero, suc, pos, ◌≤ℤ◌, Bool, true, false, not, cond, if◌then◌else◌, ◌&&◌, IsTrue, List, [], ◌∷◌, ◌++◌, length, map, flat_map, find, Option, Some, None, option_map, slice_get, Contains, refl, inl, inr, sym, ap, ◌∙◌, subst, arith}
-use Rattle.std.specs.Option.{option_map_or}
-use Rattle.std.specs.List.{list_any}
+use Rattle.std.proofs.Common.{◌≡◌, ℕ, zero, suc, pos, ◌≤ℤ◌, Bool, true, false, not, cond, ◌&&◌, List, [], ◌∷◌, ◌++◌, length, map, flat_map, find, Some, None, slice_get, Contains, refl, inl, inr, sym, ap, ◌∙◌, subst, arith}
 use Rattle.std.specs.Int.Signed.{le_z_yes}
 use Rattle.cil_model.specs.declared.types.ClassName.{ClassName}
-use Rattle.cil_model.specs.declared.types.Signature.{Signature}
-use Rattle.cil_model.specs.declared.instructions.MethodName.{MethodName}
 use Rattle.cil_model.specs.declared.instructions.MethodReference.{MethodReference}
 use Rattle.cil_model.specs.declared.trees.Tree.{Tree}
 use Rattle.cil_model.specs.declared.instructions.Instruction.TheVariants.{Return}
 use Rattle.cil_model.specs.declared.trees.Class.{Class}
 use Rattle.cil_model.specs.declared.trees.Line.{Line}
 use Rattle.cil_model.specs.declared.trees.Method.{Method}
-use Rattle.cil_model.specs.Same.{same_flag, same_class, same_options, same_signature, same_method_name}
-use Rattle.cil_model.specs.Declarations.{Declaration, source_name, declared_as, field_members, method_members, object_name, string_name, console_name, monitor_name, thread_name, object_constructor, run_method, return_alone, built_ins}
-use Rattle.cil_model.specs.Chains.{classes_searched, is_static, chain_of, methods_declared, method_declared, find_method, nearest, is_virtual, is_interface, listed_by}
+use Rattle.cil_model.specs.Same.{same_flag, same_class, same_signature, same_method_name}
+use Rattle.cil_model.specs.Declarations.{Declaration, source_name, method_members, object_name, console_name, monitor_name, thread_name, object_constructor, run_method, return_alone}
+use Rattle.cil_model.specs.Chains.{classes_searched, is_static, methods_declared, find_method, listed_by}
 use Rattle.cil_model.specs.TypeTree.{StackType}
 use Rattle.cil_model.specs.FlowRules.{flow}
 use Rattle.cil_model.specs.Examples.{unlabelled_line}
-use Rattle.cil_model.specs.Slots.{slot_along, implementation_along, class_target, virtual_in, implementer_along, interface_target, target}
+use Rattle.cil_model.specs.Slots.{target}
 use Rattle.cil_model.specs.Bodies.{argument_types, source_methods}
 use Rattle.reference_machine.specs.BuiltIn.{Action, Construct, Write, Enter, Exit, Start, Join, action_of}
 use Rattle.cil_model.specs.Typings.{Typing, FlowsOn, IsTyping, IsAccepted}
 use Rattle.cil_model.proofs.Lists.{none_is_some, get_before}
-use Rattle.cil_model.proofs.SameLaws.{never, same_class_equal}
-use Rattle.cil_model.proofs.ChainLaws.{found_or_none}
-use Rattle.std.proofs.lemmas.Option.{option_and_then_some, same_Some}
+use Rattle.cil_model.proofs.SameLaws.{never}
+use Rattle.reference_machine.proofs.Programs.DeclaredClasses.{ThreadStatus, of_source, of_object, of_string, of_console, of_monitor, of_thread, of_none, thread_status, source_is_named, source_declares}
+use Rattle.reference_machine.proofs.Programs.VirtualTargets.{is_named, nearest_at, target_is}
+use Rattle.std.proofs.lemmas.Option.{same_Some}
 
 -- ---- lists
 
@@ -60,59 +57,22 @@ occurs_in_map f (y ∷ ys) x (suc n, h) = let s : Occurs (map f ys) (f x) = occu
 
 -- ---- what is found is declared
 
-nearest_found : {X : Type 0} (at : ClassName → Option X) (cs : List ClassName) (c : ClassName) (x : X) → nearest at cs ≡ Some (c, x) → at c ≡ Some x
-nearest_found at [] c x h = none_is_some (c, x) h
-nearest_found {X} at (d ∷ ds) c x h = by_class (at d) refl h (nearest_found at ds c x)
-  where
-    by_class : (o : Option X) → at d ≡ o → option_map_or (λ y. Some (d, y)) o (nearest at ds) ≡ Some (c, x) → (nearest at ds ≡ Some (c, x) → at c ≡ Some x) → at c ≡ Some x
-    by_class None e k later = later k
-    by_class (Some y) e k later =
-        let same : (d, y) ≡ (c, x) = same_Some (d, y) (c, x) k in
-        sym (ap (λ (p : ClassName × X). at p.0) same) ∙ e ∙ ap (λ (p : ClassName × X). Some p.1) same
-
 module _ (tree : Tree) where
   abbrev pub IsDeclared : ClassName → Method → Type 0
   IsDeclared c m = Occurs (methods_declared tree c) m
 
   pub found_is_declared : (is_instance : Bool) (r : MethodReference) (c : ClassName) (m : Method) → find_method tree is_instance r ≡ Some (c, m) → IsDeclared c m
-  found_is_declared is_instance r c m h = found_refines fits (methods_declared tree c) m (nearest_found (λ k. find fits (methods_declared tree k)) (classes_searched tree r.name r.owner) c m h)
+  found_is_declared is_instance r c m h = found_refines fits (methods_declared tree c) m (nearest_at (λ k. find fits (methods_declared tree k)) (classes_searched tree r.name r.owner) c m h).0
     where
       fits : Method → Bool
       fits x = same_method_name x.name r.name && same_signature x.signature r.signature && same_flag (is_static x.kind) (not is_instance)
 
-  module _ (name : MethodName) (signature : Signature) where
-    implementation_is_declared : (slot : ClassName) (cs : List ClassName) (c : ClassName) (m : Method) → implementation_along tree name signature slot cs ≡ Some (c, m) → method_declared tree name signature c ≡ Some m
-    implementation_is_declared slot [] c m h = none_is_some (c, m) h
-    implementation_is_declared slot (d ∷ ds) c m h =
-        by_class (method_declared tree name signature d) refl (same_options same_class (slot_along tree name signature (d ∷ ds)) (Some slot)) h (implementation_is_declared slot ds c m)
-      where
-        by_class : (o : Option Method) → method_declared tree name signature d ≡ o → (b : Bool) →
-            option_map_or (λ x. if b then Some (d, x) else implementation_along tree name signature slot ds) o (implementation_along tree name signature slot ds) ≡ Some (c, m) →
-            (implementation_along tree name signature slot ds ≡ Some (c, m) → method_declared tree name signature c ≡ Some m) → method_declared tree name signature c ≡ Some m
-        by_class (Some x) e true k later =
-            let same : (d, x) ≡ (c, m) = same_Some (d, x) (c, m) k in
-            sym (ap (λ (p : ClassName × Method). method_declared tree name signature p.0) same) ∙ e ∙ ap (λ (p : ClassName × Method). Some p.1) same
-        by_class _ e _ k later = later k
-
-    class_target_is_declared : (d c k : ClassName) (m : Method) → class_target tree name signature d c ≡ Some (k, m) → IsDeclared k m
-    class_target_is_declared d c k m h = option_and_then_some _ (slot_along tree name signature (chain_of tree c)) (k, m) h (λ slot e f.
-        found_refines _ (methods_declared tree k) m (implementation_is_declared slot (chain_of tree d) k m f))
-
-    interface_target_is_declared : (d i k : ClassName) (m : Method) → interface_target tree name signature d i ≡ Some (k, m) → IsDeclared k m
-    interface_target_is_declared d i k m h = option_and_then_some _ (implementer_along tree name signature i (chain_of tree d)) (k, m) h (λ implementer e f.
-        option_and_then_some _ (nearest (virtual_in tree name signature) (chain_of tree implementer)) (k, m) f (λ found e' g. class_target_is_declared d found.0 k m g))
-
   -- the target of a declared method is declared
   pub target_is_declared : (d c : ClassName) (m : Method) (k : ClassName) (m' : Method) → target tree d c m ≡ Some (k, m') → IsDeclared c m → IsDeclared k m'
-  target_is_declared d c m k m' h there = by_kind (is_virtual m.kind) (is_interface tree c) h
-    where
-      by_kind : (v w : Bool) → (if v then (if w then interface_target tree m.name m.signature d c else class_target tree m.name m.signature d c) else Some (c, m)) ≡ Some (k, m') → IsDeclared k m'
-      by_kind true true e = interface_target_is_declared m.name m.signature d c k m' e
-      by_kind true false e = class_target_is_declared m.name m.signature d c k m' e
-      by_kind false w e =
-          let same : (c, m) ≡ (k, m') = same_Some (c, m) (k, m') e in
-          let P : ClassName × Method → Type 0 = λ p. IsDeclared p.0 p.1 in
-          subst P same there
+  target_is_declared d c m k m' h there = elim (target_is tree d c m (k, m') h) [
+    | inl itself ↦ subst (λ (p : ClassName × Method). IsDeclared p.0 p.1) itself.1 there
+    | inr is ↦ found_refines (is_named m.name m.signature) (methods_declared tree k) m' is.0
+  ]
 
 -- ---- typings
 
@@ -182,40 +142,17 @@ module _ (tree : Tree) where
       let s : Occurs (source_methods tree) (source_name x, m) = occurs_in_flat (λ (c : Class). map (λ (k : Method). (source_name c, k)) (method_members c)) tree.classes x (source_name x, m) there own_pair in
       accepted.typed s.0 (source_name x) m s.1
 
-  -- a method that some class declares and that does not act at once, by whether the class has an assembly
-  framed_at : IsAccepted tree → (o : Option (List ℕ)) (own : List ℕ) (n : ℕ) (m : Method) → slice_get (methods_declared tree (record { assembly = o; name = own })) n ≡ Some m → action_of (record { assembly = o; name = own }) m ≡ None →
-      HasTyping (record { assembly = o; name = own }) m
-  framed_at accepted None own n m e h = by_class (found_or_none (λ (x : Class). same_class (source_name x) (record { assembly = None; name = own })) tree.classes)
-    where
-      c : ClassName
-      c = record { assembly = None; name = own }
-
-      by_class : (find (λ (x : Class). same_class (source_name x) c) tree.classes ≡ None) ⊎
-          ((x : Class) × (find (λ (y : Class). same_class (source_name y) c) tree.classes ≡ Some x) × IsTrue (same_class (source_name x) c) × ((also : Class → Bool) → IsTrue (also x) → IsTrue (list_any also tree.classes))) → HasTyping c m
-      by_class (inl none) = none_is_some m (sym (ap (λ (o : Option Class). slice_get (listed_by (λ (d : Declaration). d.methods) (option_map (λ (x : Class). declared_as x.kind (field_members x) (method_members x)) o)) n) none) ∙ e)
-      by_class (inr (x, found, same, among)) =
-          let own_method : slice_get (method_members x) n ≡ Some m = sym (ap (λ (o : Option Class). slice_get (listed_by (λ (d : Declaration). d.methods) (option_map (λ (y : Class). declared_as y.kind (field_members y) (method_members y)) o)) n) found) ∙ e in
-          let P : ClassName → Type 0 = λ k. HasTyping k m in
-          subst P (same_class_equal (source_name x) c same) (source_has_typing accepted x m (found_refines (λ (y : Class). same_class (source_name y) c) tree.classes x found) (n, own_method))
-  framed_at accepted (Some a) own n m e h = by_name (same_class object_name c) (same_class string_name c) (same_class console_name c) (same_class monitor_name c) (same_class thread_name c) refl refl refl refl refl e
-    where
-      c : ClassName
-      c = record { assembly = Some a; name = own }
-
-      -- what holds of the members of a built-in class holds of those of a class of that name
-      renamed : (k : ClassName) → IsTrue (same_class k c) → ((j : ℕ) (x : Method) → slice_get (methods_declared tree k) j ≡ Some x → action_of k x ≡ None → HasTyping k x) → HasTyping c m
-      renamed k same each =
-          let P : ClassName → Type 0 = λ z. (j : ℕ) (x : Method) → slice_get (methods_declared tree z) j ≡ Some x → action_of z x ≡ None → HasTyping z x in
-          subst P (same_class_equal k c same) each n m e h
-
-      by_name : (t₁ t₂ t₃ t₄ t₅ : Bool) → same_class object_name c ≡ t₁ → same_class string_name c ≡ t₂ → same_class console_name c ≡ t₃ → same_class monitor_name c ≡ t₄ → same_class thread_name c ≡ t₅ →
-          slice_get (listed_by (λ (d : Declaration). d.methods) (option_map (λ (entry : ClassName × Declaration). entry.1) (
-          cond t₁ (slice_get built_ins 0) (cond t₂ (slice_get built_ins 1) (cond t₃ (slice_get built_ins 2) (cond t₄ (slice_get built_ins 3) (cond t₅ (slice_get built_ins 4) None))))))) n ≡ Some m → HasTyping c m
-      by_name true t₂ t₃ t₄ t₅ e₁ e₂ e₃ e₄ e₅ k = renamed object_name e₁ member_of_object
-      by_name false false true t₄ t₅ e₁ e₂ e₃ e₄ e₅ k = renamed console_name e₃ member_of_console
-      by_name false false false true t₅ e₁ e₂ e₃ e₄ e₅ k = renamed monitor_name e₄ member_of_monitor
-      by_name false false false false true e₁ e₂ e₃ e₄ e₅ k = renamed thread_name e₅ member_of_thread
-      by_name false _ _ _ _ e₁ e₂ e₃ e₄ e₅ k = none_is_some m k
+  -- a method that some class declares and that does not act at once
+  framed_by : IsAccepted tree → (n : ℕ) (m : Method) {c : ClassName} → ThreadStatus tree c → slice_get (methods_declared tree c) n ≡ Some m → action_of c m ≡ None → HasTyping c m
+  framed_by accepted n m {c} (of_source x found) e h =
+      let own : slice_get (method_members x) n ≡ Some m = sym (ap (λ o. slice_get (listed_by (λ (d : Declaration). d.methods) o) n) (source_declares tree c x found)) ∙ e in
+      subst (λ k. HasTyping k m) (source_is_named tree c x found) (source_has_typing accepted x m (found_refines (λ (y : Class). same_class (source_name y) c) tree.classes x found) (n, own))
+  framed_by accepted n m of_object e h = member_of_object n m e h
+  framed_by accepted n m of_string e h = none_is_some m e
+  framed_by accepted n m of_console e h = member_of_console n m e h
+  framed_by accepted n m of_monitor e h = member_of_monitor n m e h
+  framed_by accepted n m of_thread e h = member_of_thread n m e h
+  framed_by accepted n m (of_none none) e h = none_is_some m (sym (ap (λ o. slice_get (listed_by (λ (d : Declaration). d.methods) o) n) none) ∙ e)
 
   pub framed_has_typing : IsAccepted tree → (c : ClassName) (n : ℕ) (m : Method) → slice_get (methods_declared tree c) n ≡ Some m → action_of c m ≡ None → HasTyping c m
-  framed_has_typing accepted c n m e h = framed_at accepted c.assembly c.name n m e h
+  framed_has_typing accepted c n m e h = framed_by accepted n m (thread_status tree c) e h

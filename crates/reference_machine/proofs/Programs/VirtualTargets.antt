@@ -4,7 +4,7 @@ use Rattle.std.specs.List.{list_any}
 use Rattle.std.specs.Option.{option_map_or}
 use Rattle.std.proofs.lemmas.Bool.{or_parts, or_left, or_right, and_from}
 use Rattle.std.proofs.lemmas.List.Folds.{list_any-append}
-use Rattle.std.proofs.lemmas.Option.{same_Some}
+use Rattle.std.proofs.lemmas.Option.{option_and_then_some, same_Some}
 use Rattle.cil_model.specs.declared.types.ClassName.{ClassName}
 use Rattle.cil_model.specs.declared.types.DeclaredType.{DeclaredType}
 use Rattle.cil_model.specs.declared.types.Element.TheVariants.{String, Class}
@@ -75,10 +75,10 @@ nearest_at {X} at (d ∷ ds) c x h = by_class (at d) refl h (nearest_at at ds c 
 
 -- ---- methods
 
-abbrev is_named : MethodName → Signature → Method → Bool
+abbrev pub is_named : MethodName → Signature → Method → Bool
 is_named name signature m = same_method_name m.name name && same_signature m.signature signature
 
-named_name : (name : MethodName) (signature : Signature) (m : Method) → IsTrue (is_named name signature m) → m.name ≡ name
+pub named_name : (name : MethodName) (signature : Signature) (m : Method) → IsTrue (is_named name signature m) → m.name ≡ name
 named_name name signature m h = same_method_name_equal m.name name (both_first _ _ h)
 
 named_signature : (name : MethodName) (signature : Signature) (m : Method) → IsTrue (is_named name signature m) → m.signature ≡ signature
@@ -144,7 +144,7 @@ module _ (tree : Tree) where
         by_test false k = none_is_some slot k
 
     -- an implementation is a virtual method of a class of the chain
-    abbrev IsImplementation : List ClassName → ClassName × Method → Type 0
+    abbrev pub IsImplementation : List ClassName → ClassName × Method → Type 0
     IsImplementation cs found = (method_declared tree name signature found.0 ≡ Some found.1) × IsTrue (is_virtual found.1.kind) × IsTrue (list_any (same_class found.0) cs)
 
     implementation_is : (slot : ClassName) (cs : List ClassName) (found : ClassName × Method) → implementation_along tree name signature slot cs ≡ Some found → IsImplementation cs found
@@ -162,6 +162,24 @@ module _ (tree : Tree) where
             let fills : slot_filled d inherited x ≡ Some slot = sym (ap (λ o. option_map_or (slot_filled d inherited) o inherited) e) ∙ same_options_equal same_class same_class_equal _ _ same in
             subst (IsImplementation (d ∷ ds)) (same_Some (d, x) found k) (e, slot_is_virtual d inherited x slot fills, or_left _ _ (same_class_itself d))
         by_class _ e _ same k later = following (later k)
+
+    -- so is what a class or an interface finds
+    class_target_is : (d c : ClassName) (found : ClassName × Method) → class_target tree name signature d c ≡ Some found → IsImplementation (chain_of tree d) found
+    class_target_is d c found h = option_and_then_some _ (slot_along tree name signature (chain_of tree c)) found h (λ slot e f. implementation_is slot (chain_of tree d) found f)
+
+    interface_target_is : (d i : ClassName) (found : ClassName × Method) → interface_target tree name signature d i ≡ Some found → IsImplementation (chain_of tree d) found
+    interface_target_is d i found h = option_and_then_some _ (implementer_along tree name signature i (chain_of tree d)) found h (λ implementer e f.
+        option_and_then_some _ (nearest (virtual_in tree name signature) (chain_of tree implementer)) found f (λ declared e' g. class_target_is d declared.0 found g))
+
+  -- the target of a method that isn't virtual is itself, and that of a virtual one is an implementation of its name and signature
+  pub target_is : (d c : ClassName) (m : Method) (found : ClassName × Method) → target tree d c m ≡ Some found → ((is_virtual m.kind ≡ false) × ((c, m) ≡ found)) ⊎ IsImplementation m.name m.signature (chain_of tree d) found
+  target_is d c m found h = by_kind (is_virtual m.kind) (is_interface tree c) refl h
+    where
+      by_kind : (v w : Bool) → is_virtual m.kind ≡ v → (if v then (if w then interface_target tree m.name m.signature d c else class_target tree m.name m.signature d c) else Some (c, m)) ≡ Some found →
+          ((is_virtual m.kind ≡ false) × ((c, m) ≡ found)) ⊎ IsImplementation m.name m.signature (chain_of tree d) found
+      by_kind true true e k = inr (interface_target_is m.name m.signature d c found k)
+      by_kind true false e k = inr (class_target_is m.name m.signature d c found k)
+      by_kind false w e k = inl (e, same_Some (c, m) found k)
 
   -- ---- chains
 
