@@ -1,5 +1,5 @@
 -- What each instruction leaves to other threads; and where it blocks, what its thread waits for.
-use Rattle.std.proofs.Common.{◌≡◌, ◌+◌, ◌++◌, ◌==◌, ℕ, true, List, [], ◌∷◌, Some, option_and_then, refl, ap, ◌∙◌, subst}
+use Rattle.std.proofs.Common.{◌≡◌, ◌++◌, ◌==◌, ℕ, true, List, [], ◌∷◌, Some, option_and_then, refl, ap, ◌∙◌, subst}
 use Rattle.reference_machine.specs.Values.{ObjectName, Value, Int32, Int64, Native, Null, Reference}
 use Rattle.reference_machine.specs.States.{Monitor, Free, Held, HeapObject, Frame, State, object_at, monitor_of, with_monitor}
 use Rattle.reference_machine.specs.Effects.{StepContext, Effect}
@@ -20,10 +20,7 @@ LeavesOthers here s f e = Allowed (KeepsOthers here.thread s) (IsWaiting here s 
 -- ---- monitors and stacks
 
 free_is_not_held : {A : Type 0} (owner count : ℕ) → Free ≡ Held owner count → A
-free_is_not_held {A} owner count e = absurd (lost e)
-  where
-    lost : Free ≡ Held owner count → ⊥
-    lost h = cc
+free_is_not_held owner count e = absurd cc
 
 same_owner : (a b c d : ℕ) → Held a c ≡ Held b d → a ≡ b
 same_owner a b c d e = cc

@@ -16,10 +16,10 @@ use Rattle.reference_machine.specs.BuiltIn.{Action, Enter, Join}
 use Rattle.reference_machine.specs.Effects.{StepContext, Effect, Goes, Blocks, Raises, Sticks}
 use Rattle.reference_machine.specs.Runs.{StepRequest, RunsTo, followed_by, run}
 use Rattle.reference_machine.specs.States.{Monitor, Held, HeapObject, Frame, Thread, State, is_live, is_live_thread, monitor_of, object_at}
-use Rattle.reference_machine.specs.Steps.{Answers, Stuck, effect_of, continues, instruction_at, charge, step, step_of, with_thread_at}
+use Rattle.reference_machine.specs.Steps.{Answers, effect_of, continues, instruction_at, charge, step, step_of, with_thread_at}
 use Rattle.reference_machine.specs.Values.{ObjectName, Born, Literal, Value}
 use Rattle.reference_machine.proofs.Runs.JoinedRuns.{after_run}
-use Rattle.reference_machine.proofs.Runs.InstructionEffects.{goes, same_after}
+use Rattle.reference_machine.proofs.Runs.InstructionEffects.{goes, same_after, same_report, stuck_answers}
 use Rattle.reference_machine.specs.TypedStates.{IsTyped}
 use Rattle.reference_machine.proofs.TypedSteps.AllInstructions.{instruction_typed}
 use Rattle.reference_machine.proofs.TypedSteps.StepsAndRuns.{step_typed}
@@ -258,15 +258,6 @@ module _ (t : ℕ) (s : State) (x y : Thread) (there : slice_get s.threads t ≡
 
 -- ---- one step
 
-pub no_answer : {A : Type 0} (r : Report) (s : State) → Stuck ≡ Answers r s → A
-no_answer {A} r s e = absurd (lost e)
-  where
-    lost : Stuck ≡ Answers r s → ⊥
-    lost h = cc
-
-pub same_report : (r q : Report) (s t : State) → Answers r s ≡ Answers q t → r ≡ q
-same_report r q s t e = cc
-
 module _ (tree : Tree) (limits : Limits) (accepted : IsAccepted tree) (set : List Bool) where
   module _ (s : State) (typed : IsTyped tree s) (blocked : IsBlockedSet tree s set) (t : ℕ) (refused : Bool) (r : Report) (next : State) where
     abbrev here : StepContext
@@ -320,10 +311,10 @@ module _ (tree : Tree) (limits : Limits) (accepted : IsAccepted tree) (set : Lis
       step_charged_lasts outside f left frames (Goes (g ∷ fs) after') (goes _ _ keeps) h = going_lasts outside after' keeps Ran left (g ∷ fs) h
       step_charged_lasts outside f left frames Blocks k h = going_lasts outside s (itself_keeps t s) Blocked left frames h
       step_charged_lasts outside f left frames (Raises fault) k h = moved_lasts outside s (itself_keeps t s) _ (Ended (ByFault fault)) h
-      step_charged_lasts outside f left frames Sticks k h = no_answer r next h
+      step_charged_lasts outside f left frames Sticks k h = stuck_answers r next h
 
       outside_lasts : (IsIn set t → ⊥) → (left : ℕ) (frames : List Frame) → charge s t left frames (effect_of here s frames) ≡ Answers r next → Lasts
-      outside_lasts outside left [] h = no_answer r next h
+      outside_lasts outside left [] h = stuck_answers r next h
       outside_lasts outside left (f ∷ below) h = step_charged_lasts outside f left (f ∷ below) (effect_of here s (f ∷ below)) (effect_keeps here s f below) h
 
       live_lasts : charge s t (x.steps_left - 1) x.frames (effect_of here s x.frames) ≡ Answers r next → Lasts

@@ -13,7 +13,8 @@ use Rattle.reference_machine.specs.States.{Frame, Thread, State, is_live_thread}
 use Rattle.reference_machine.specs.Steps.{Answers, effect_of, continues, charge, step, step_of}
 use Rattle.reference_machine.specs.TypedStates.{IsTyped}
 use Rattle.reference_machine.specs.Waits.{Wait, wait_of}
-use Rattle.reference_machine.proofs.Deadlocks.LastingDeadlocks.{no_answer, same_report, waiting_lives}
+use Rattle.reference_machine.proofs.Deadlocks.LastingDeadlocks.{waiting_lives}
+use Rattle.reference_machine.proofs.Runs.InstructionEffects.{same_report, stuck_answers}
 use Rattle.reference_machine.proofs.Deadlocks.WaitingThreads.{blocked_thread_waits, waiting_thread_blocks}
 
 abbrev pub IsNoBlock : Report → Type 0
@@ -30,7 +31,7 @@ blocked_effect s t zero frames (Goes (f ∷ fs) after) r next h is = absurd (no_
 blocked_effect s t (suc left) frames (Goes (f ∷ fs) after) r next h is = absurd (no_block Ran r tt (same_report Ran r _ next h) is)
 blocked_effect s t left frames Blocks r next h is = refl
 blocked_effect s t left frames (Raises fault) r next h is = absurd (no_block (Ended (ByFault fault)) r tt (same_report (Ended (ByFault fault)) r _ next h) is)
-blocked_effect s t left frames Sticks r next h is = no_answer r next h
+blocked_effect s t left frames Sticks r next h is = stuck_answers r next h
 
 -- a blocked step reports so, or uses up the budget
 blocked_report : (s : State) (t left : ℕ) (frames : List Frame) (r : Report) (next : State) → continues Blocked s t left frames ≡ Answers r next → (r ≡ Blocked) ⊎ (r ≡ Ended Budget)

@@ -14,7 +14,7 @@ use Rattle.reference_machine.specs.RetainedWords.{IsRetained}
 use Rattle.reference_machine.specs.Reachable.{IsReachable}
 use Rattle.reference_machine.specs.Steps.{StepOutcome, Answers, Stuck, instruction_at, effect_of, with_thread_at, ended_as, continues, charge, step_of, step}
 use Rattle.reference_machine.specs.Runs.{StepRequest, RunsTo, followed_by, run}
-use Rattle.reference_machine.proofs.Runs.InstructionEffects.{same_after}
+use Rattle.reference_machine.proofs.Runs.InstructionEffects.{same_after, stuck_answers}
 use Rattle.reference_machine.proofs.Runs.JoinedRuns.{clash, same_state, after_run}
 use Rattle.reference_machine.specs.TypedStates.{IsTyped}
 use Rattle.reference_machine.proofs.ReachableObjects.States.{AreFramesWithin, IsClosed, closed_thread_at}
@@ -23,12 +23,6 @@ use Rattle.reference_machine.proofs.ReachableObjects.ClosedSets.{reachable_withi
 use Rattle.reference_machine.proofs.ReachableObjects.TypedStates.{reachable_is_there}
 
 -- ---- steps and runs keep a closed set closed
-
-stuck_answers : {A : Type 0} (r : Report) (s : State) → Stuck ≡ Answers r s → A
-stuck_answers {A} r s e = absurd (lost e)
-  where
-    lost : Stuck ≡ Answers r s → ⊥
-    lost h = cc
 
 module _ (Inside : ℕ → Type 0) where
   ended_within : (s s' : State) (t left : ℕ) (e : End) (r : Report) → IsClosed Inside s → ended_as s t left e ≡ Answers r s' → IsClosed Inside s'

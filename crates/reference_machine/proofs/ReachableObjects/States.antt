@@ -1,5 +1,5 @@
 -- States in which the roots, and the objects of one set, refer to objects of that set alone; each change keeps them so.
-use Rattle.std.proofs.Common.{◌≡◌, ◌≤◌, ◌⊎◌, ℕ, List, [], ◌∷◌, ◌++◌, length, Option, Some, None, option_map, slice_get, unwrap_or, inl, inr, sym, subst, refl, arith}
+use Rattle.std.proofs.Common.{◌≡◌, ◌≤◌, ℕ, List, [], ◌∷◌, ◌++◌, length, Option, Some, None, option_map, slice_get, unwrap_or, sym, subst, refl, arith}
 use Rattle.std.specs.List.{AllByRecursion}
 use Rattle.std.proofs.lemmas.List.{length-set, length-append}
 use Rattle.std.proofs.lemmas.Option.{same_Some, option_and_then_some}
@@ -14,12 +14,8 @@ use Rattle.reference_machine.specs.States.{Monitor, Free, Contents, Instance, Ar
 use Rattle.reference_machine.specs.Effects.{new_frame, after, return_value}
 use Rattle.reference_machine.specs.Reachable.{constructed_value, values_of_contents}
 use Rattle.reference_machine.specs.Steps.{with_thread_at}
+use Rattle.reference_machine.proofs.Runs.StateChanges.{item_passes, mapped_some}
 use Rattle.reference_machine.proofs.ReachableObjects.Values.{values_of, IsWithin, AreWithin, entry_within, replaced_within, replaced_entry_within, zeros_within}
-
--- an option that results from another by a map
-mapped_some : {A B P : Type 0} (f : A → B) (o : Option A) (y : B) → option_map f o ≡ Some y → ((x : A) → o ≡ Some x → f x ≡ y → P) → P
-mapped_some f None y e go = none_is_some y e
-mapped_some f (Some x) y e go = go x refl (same_Some (f x) y e)
 
 -- the frame refers to objects of the set alone
 pub record IsFrameWithin (Inside : ℕ → Type 0) (f : Frame) : Type 0 where
@@ -94,15 +90,11 @@ module _ (Inside : ℕ → Type 0) (s : State) (closed : IsClosed Inside s) wher
   closed_object (Born n) o h = record {
     unborn = λ m outside. closed.unborn m (subst (λ k. k ≤ m) (length-set s.objects n o) outside);
     holds = record {
-      objects = λ m x there inside. by_index x m inside (set_or_was s.objects n m o x there);
+      objects = λ m x there inside. item_passes (λ (y : HeapObject). AreWithin Inside (values_of_contents y.contents)) o x h (λ was. closed.holds.objects m x was inside) (set_or_was s.objects n m o x there);
       statics = closed.holds.statics;
       threads = closed.holds.threads;
     };
   }
-    where
-      by_index : (x : HeapObject) (m : ℕ) → Inside m → (x ≡ o) ⊎ (slice_get s.objects m ≡ Some x) → AreWithin Inside (values_of_contents x.contents)
-      by_index x m inside (inl is) = subst (λ (y : HeapObject). AreWithin Inside (values_of_contents y.contents)) (sym is) h
-      by_index x m inside (inr was) = closed.holds.objects m x was inside
 
   -- an object of the set with other marks and what it held
   pub closed_marks : (n : ObjectName) (o o' : HeapObject) → IsWithin Inside (Reference n) → object_at s n ≡ Some o → o'.contents ≡ o.contents → IsClosed Inside (with_object s n o')
@@ -133,7 +125,7 @@ module _ (Inside : ℕ → Type 0) (s : State) (closed : IsClosed Inside s) wher
   closed_birth contents h = record {
     unborn = λ m outside. closed.unborn m (fewer m outside);
     holds = record {
-      objects = λ m o there inside. by_index o m inside (last_or_was s.objects m newborn o there);
+      objects = λ m o there inside. item_passes (λ (y : HeapObject). AreWithin Inside (values_of_contents y.contents)) newborn o h (λ was. closed.holds.objects m o was inside) (last_or_was s.objects m newborn o there);
       statics = closed.holds.statics;
       threads = closed.holds.threads;
     };
@@ -144,10 +136,6 @@ module _ (Inside : ℕ → Type 0) (s : State) (closed : IsClosed Inside s) wher
 
       fewer : (m : ℕ) → length (s.objects ++ newborn ∷ []) ≤ m → length s.objects ≤ m
       fewer m outside = omega (arith, length-append s.objects (newborn ∷ []))
-
-      by_index : (o : HeapObject) (m : ℕ) → Inside m → (o ≡ newborn) ⊎ (slice_get s.objects m ≡ Some o) → AreWithin Inside (values_of_contents o.contents)
-      by_index o m inside (inl is) = subst (λ (y : HeapObject). AreWithin Inside (values_of_contents y.contents)) (sym is) h
-      by_index o m inside (inr was) = closed.holds.objects m o was inside
 
   -- its name is that of an object which was still to be born
   pub newborn_within : IsWithin Inside (Reference (next_name s))
@@ -184,13 +172,9 @@ module _ (Inside : ℕ → Type 0) (s : State) (closed : IsClosed Inside s) wher
     holds = record {
       objects = closed.holds.objects;
       statics = closed.holds.statics;
-      threads = λ t x there. by_index t x (last_or_was s.threads t thread x there);
+      threads = λ t x there. item_passes (λ (y : Thread). y.ended ≡ None → AreFramesWithin Inside y.frames) thread x frames (closed.holds.threads t x) (last_or_was s.threads t thread x there);
     };
   }
-    where
-      by_index : (t : ℕ) (x : Thread) → (x ≡ thread) ⊎ (slice_get s.threads t ≡ Some x) → x.ended ≡ None → AreFramesWithin Inside x.frames
-      by_index t x (inl is) live = subst (λ (y : Thread). y.ended ≡ None → AreFramesWithin Inside y.frames) (sym is) frames live
-      by_index t x (inr was) live = closed.holds.threads t x was live
 
   -- another thread in place of one
   pub closed_thread_at : (t : ℕ) (thread : Thread) → (thread.ended ≡ None → AreFramesWithin Inside thread.frames) → IsClosed Inside (with_thread_at s t thread)
@@ -199,10 +183,6 @@ module _ (Inside : ℕ → Type 0) (s : State) (closed : IsClosed Inside s) wher
     holds = record {
       objects = closed.holds.objects;
       statics = closed.holds.statics;
-      threads = λ n x there. by_index n x (set_or_was s.threads t n thread x there);
+      threads = λ n x there. item_passes (λ (y : Thread). y.ended ≡ None → AreFramesWithin Inside y.frames) thread x frames (closed.holds.threads n x) (set_or_was s.threads t n thread x there);
     };
   }
-    where
-      by_index : (n : ℕ) (x : Thread) → (x ≡ thread) ⊎ (slice_get s.threads n ≡ Some x) → x.ended ≡ None → AreFramesWithin Inside x.frames
-      by_index n x (inl is) live = subst (λ (y : Thread). y.ended ≡ None → AreFramesWithin Inside y.frames) (sym is) frames live
-      by_index n x (inr was) live = closed.holds.threads n x was live

@@ -1,5 +1,5 @@
 -- Values that refer to objects of one set alone: what is read out of lists of them, what is put into them, and what is computed.
-use Rattle.std.proofs.Common.{◌≡◌, ℕ, zero, suc, ℤ, pos, negsuc, Bool, true, false, if◌then◌else◌, List, [], ◌∷◌, ◌++◌, take, drop, reverse, replicate, map, Option, Some, None, Result, Ok, Err, slice_get, slice_set, Contains, sym, subst}
+use Rattle.std.proofs.Common.{◌≡◌, ℕ, zero, suc, ℤ, pos, negsuc, Bool, true, false, if◌then◌else◌, List, [], ◌∷◌, ◌++◌, take, drop, reverse, replicate, map, Some, Result, Ok, Err, slice_get, slice_set, Contains, sym, subst}
 use Rattle.std.specs.Int.{w32, w64}
 use Rattle.std.specs.List.{AllByRecursion}
 use Rattle.std.proofs.lemmas.Grind.{reverse_onto}
@@ -16,18 +16,10 @@ use Rattle.cil_model.specs.Assignable.{is_reference}
 use Rattle.cil_model.specs.Bodies.{at_index}
 use Rattle.cil_model.specs.Fields.{FieldKey, same_key}
 use Rattle.cil_model.proofs.Lists.{none_is_some}
-use Rattle.reference_machine.specs.Values.{Born, Literal, Value, Int32, Int64, Native, Null, Reference, integer_zero, zero_of, same_kind}
+use Rattle.reference_machine.proofs.Runs.StateChanges.{replaced_is}
+use Rattle.reference_machine.specs.Values.{Born, Literal, Value, Int32, Int64, Native, Null, Reference, integer_zero, zero_of}
 use Rattle.reference_machine.specs.Arithmetic.{Operand, I4, I8, NativeInt, Object as ObjectOperand, binary, result_as, binary_of, unary_of, shift_of, convert_32_of, convert_64_of, operand, binary_value, unary_value, shift_value, one_or_zero, convert_32, convert_64}
-use Rattle.reference_machine.specs.States.{entry_at, with_entry, same_kind_or_none, replaced_entry, replaced_at, zero_fields}
-
--- what is stored in place of a value of its kind is what was to be stored
-stored_is : {X : Type 0} (old : Option Value) (v : Value) (x y : X) → same_kind_or_none old v x ≡ Some y → x ≡ y
-stored_is None v x y e = none_is_some y e
-stored_is {X} (Some w) v x y e = by_test (same_kind w v) e
-  where
-    by_test : (b : Bool) → (if b then Some x else None) ≡ Some y → x ≡ y
-    by_test true h = same_Some x y h
-    by_test false h = none_is_some y h
+use Rattle.reference_machine.specs.States.{entry_at, with_entry, replaced_entry, replaced_at, zero_fields}
 
 -- the values under keys
 abbrev pub values_of : List (FieldKey × Value) → List Value
@@ -82,7 +74,7 @@ module _ (Inside : ℕ → Type 0) where
 
   -- another value at an index
   pub replaced_within : (vs vs' : List Value) (n : ℕ) (v : Value) → AreWithin vs → IsWithin v → replaced_at n v vs ≡ Some vs' → AreWithin vs'
-  replaced_within vs vs' n v h k e = subst AreWithin (stored_is (slice_get vs n) v (slice_set vs n v) vs' e) (set_within vs n v h k)
+  replaced_within vs vs' n v h k e = subst AreWithin (replaced_is (slice_get vs n) v (slice_set vs n v) vs' e) (set_within vs n v h k)
 
   -- ---- entries under keys
 
@@ -106,7 +98,7 @@ module _ (Inside : ℕ → Type 0) where
   pub replaced_entry_within : (k : FieldKey) (es es' : List (FieldKey × Value)) (v : Value) → AreWithin (values_of es) → IsWithin v → replaced_entry k v es ≡ Some es' → AreWithin (values_of es')
   replaced_entry_within k es es' v h is e =
       let P : List (FieldKey × Value) → Type 0 = λ x. AreWithin (values_of x) in
-      subst P (stored_is (entry_at same_key k es) v (with_entry same_key k v es) es' e) (with_entry_within k es v h is)
+      subst P (replaced_is (entry_at same_key k es) v (with_entry same_key k v es) es' e) (with_entry_within k es v h is)
 
   -- ---- what a location holds at first
 

@@ -389,11 +389,11 @@ follows_steps here s = record {
 pub same_after : (r q : Report) (s t : State) → Answers r s ≡ Answers q t → s ≡ t
 same_after r q s t e = cc
 
-stuck_answers : {A : Type 0} (r : Report) (s : State) → Stuck ≡ Answers r s → A
-stuck_answers {A} r s e = absurd (lost e)
-  where
-    lost : Stuck ≡ Answers r s → ⊥
-    lost h = cc
+pub same_report : (r q : Report) (s t : State) → Answers r s ≡ Answers q t → r ≡ q
+same_report r q s t e = cc
+
+pub stuck_answers : {A : Type 0} (r : Report) (s : State) → Stuck ≡ Answers r s → A
+stuck_answers r s e = absurd cc
 
 threads_aside : (s s' : State) (threads : List Thread) → Follows s s' → Follows s (record s' { threads = threads })
 threads_aside s s' threads h = record { objects = h.objects; statics = h.statics; literals_stay = h.literals_stay; printed = h.printed }

@@ -12,10 +12,7 @@ use Rattle.reference_machine.specs.Faults.{faults_of_operation}
 use Rattle.cil_model.proofs.Lists.{none_is_some}
 
 no_fault : {X A : Type 0} (x : X) (f : Fault) → Ok x ≡ Err f → A
-no_fault {X} {A} x f e = absurd (lost e)
-  where
-    lost : Ok x ≡ Err f → ⊥
-    lost h = cc
+no_fault x f e = absurd cc
 
 same_fault : {X : Type 0} (f g : Fault) → ◌≡◌ {A = Result X Fault} (Err f) (Err g) → f ≡ g
 same_fault f g e = cc

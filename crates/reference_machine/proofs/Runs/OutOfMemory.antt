@@ -9,6 +9,7 @@ use Rattle.cil_model.specs.declared.reports.Fault.{Fault}
 use Rattle.cil_model.specs.declared.reports.Fault.TheVariants.{Overflow, OutOfMemory, StackOverflow}
 use Rattle.cil_model.specs.Bodies.{constructor_reference}
 use Rattle.cil_model.specs.Chains.{find_method}
+use Rattle.cil_model.proofs.SameLaws.{never}
 use Rattle.reference_machine.specs.Arithmetic.{as_index}
 use Rattle.reference_machine.specs.BuiltIn.{Action, Enter, Exit, Start, Join}
 use Rattle.reference_machine.specs.Effects.{StepContext, Effect, Goes, Blocks, Raises, Sticks}
@@ -29,10 +30,7 @@ Without [] = Unit {0}
 Without (x ∷ xs) = (is_memory x ≡ false) × Without xs
 
 other : {A : Type 0} (x : Fault) → is_memory x ≡ false → x ≡ OutOfMemory → A
-other {A} x h e = absurd (lost (sym h ∙ ap is_memory e))
-  where
-    lost : false ≡ true → ⊥
-    lost k = cc
+other x h e = never (sym h ∙ ap is_memory e)
 
 lacks : {A : Type 0} (xs : List Fault) → Without xs → Contains xs OutOfMemory → A
 lacks [] h (k, inside, is) = absurd (omega (arith, inside))

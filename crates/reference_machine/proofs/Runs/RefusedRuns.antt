@@ -11,7 +11,7 @@ use Rattle.reference_machine.specs.Rooms.{RefusesBeyondRoom}
 use Rattle.reference_machine.specs.Runs.{IsStateAfter, RunsTo, is_refusal, run, step_reports, thread_part}
 use Rattle.reference_machine.specs.States.{State}
 use Rattle.reference_machine.specs.Steps.{Answers, step}
-use Rattle.reference_machine.proofs.Runs.InstructionEffects.{same_after}
+use Rattle.reference_machine.proofs.Runs.InstructionEffects.{same_after, same_report}
 use Rattle.reference_machine.proofs.Runs.JoinedRuns.{first_of, same_state}
 
 -- two tests of one thing are equal
@@ -19,9 +19,6 @@ same_test : {P : Type 0} (b c : Bool) → IsTrue b ↔ P → IsTrue c ↔ P → 
 same_test true false h k = sym (k.1 (h.0 refl))
 same_test false true h k = h.1 (k.0 refl)
 same_test _ _ h k = refl
-
-same_report : (q r : Report) (s t : State) → Answers q s ≡ Answers r t → q ≡ r
-same_report q r s t e = cc
 
 module _ (tree : Tree) (limits : Limits) where
   -- the outcome of a run from a state

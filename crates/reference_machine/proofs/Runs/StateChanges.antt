@@ -1,5 +1,5 @@
 -- Each change of a state keeps what no step takes back.
-use Rattle.std.proofs.Common.{◌≡◌, ℕ, Bool, true, false, if◌then◌else◌, List, [], ◌∷◌, ◌++◌, map, length, Option, Some, None, option_map, slice_get, slice_set, unwrap_or, refl, sym, ap, ◌∙◌, subst}
+use Rattle.std.proofs.Common.{◌≡◌, ◌⊎◌, inl, inr, ℕ, Bool, true, false, if◌then◌else◌, List, [], ◌∷◌, ◌++◌, map, length, Option, Some, None, option_map, slice_get, slice_set, unwrap_or, refl, sym, ap, ◌∙◌, subst}
 use Rattle.std.proofs.lemmas.List.{append-nil, append_assoc, map-append, length-set}
 use Rattle.std.proofs.lemmas.Option.{get_or_from_slice_get, option_and_then_some, same_Some}
 use Rattle.std.proofs.Math.Seq.{map-set_same}
@@ -24,9 +24,15 @@ continues_more xs ys zs (more, e) (less, e') = (less ++ more, e ∙ ap (λ l. l 
 continues_equal : {X : Type 0} (xs ys : List X) → ys ≡ xs → Continues ys xs
 continues_equal xs ys e = ([], e ∙ sym (append-nil xs))
 
-mapped_some : {A B P : Type 0} (f : A → B) (o : Option A) (y : B) → option_map f o ≡ Some y → ((x : A) → o ≡ Some x → f x ≡ y → P) → P
+-- an option that results from another by a map
+pub mapped_some : {A B P : Type 0} (f : A → B) (o : Option A) (y : B) → option_map f o ≡ Some y → ((x : A) → o ≡ Some x → f x ≡ y → P) → P
 mapped_some f None y e go = none_is_some y e
 mapped_some f (Some x) y e go = go x refl (same_Some (f x) y e)
+
+-- what is true of a new item, and of each item that was there, is true of each item after a change
+pub item_passes : {X B : Type 0} (P : X → Type 0) (y x : X) → P y → (B → P x) → (x ≡ y) ⊎ B → P x
+item_passes P y x new was (inl is) = subst P (sym is) new
+item_passes P y x new was (inr there) = was there
 
 -- entries keep their keys
 keys_stay : {K V : Type 0} (same : K → K → Bool) (k : K) (v : V) (es : List (K × V)) → map (λ (e : K × V). e.0) (with_entry same k v es) ≡ map (λ (e : K × V). e.0) es
@@ -37,7 +43,8 @@ keys_stay {K} {V} same k v (e ∷ es) = by_test (same e.0 k) (keys_stay same k v
     by_test true later = refl
     by_test false later = ap (λ ks. e.0 ∷ ks) later
 
-replaced_is : {X : Type 0} (old : Option Value) (v : Value) (x y : X) → same_kind_or_none old v x ≡ Some y → x ≡ y
+-- what is stored in place of a value of its kind is what was to be stored
+pub replaced_is : {X : Type 0} (old : Option Value) (v : Value) (x y : X) → same_kind_or_none old v x ≡ Some y → x ≡ y
 replaced_is None v x y e = none_is_some y e
 replaced_is {X} (Some w) v x y e = by_test (same_kind w v) e
   where

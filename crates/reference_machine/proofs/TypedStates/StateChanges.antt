@@ -1,5 +1,5 @@
 -- Each change that the machine makes to a state leaves it typed.
-use Rattle.std.proofs.Common.{◌≡◌, ◌≢◌, ◌⊎◌, ℕ, zero, suc, Bool, true, false, if◌then◌else◌, IsTrue, List, [], ◌∷◌, ◌++◌, replicate, Option, Some, None, option_map, option_and_then, slice_get, slice_set, unwrap_or, Contains, refl, inl, inr, sym, ap, ◌∙◌, subst}
+use Rattle.std.proofs.Common.{◌≡◌, ◌≢◌, ℕ, zero, suc, Bool, true, false, if◌then◌else◌, IsTrue, List, [], ◌∷◌, ◌++◌, replicate, Option, Some, None, option_map, option_and_then, slice_get, slice_set, unwrap_or, Contains, refl, sym, ap, ◌∙◌, subst}
 use Rattle.std.specs.Prelude.{IsSome}
 use Rattle.std.proofs.lemmas.Option.{same_Some}
 use Rattle.cil_model.specs.declared.types.ClassName.{ClassName}
@@ -20,7 +20,7 @@ use Rattle.reference_machine.specs.Values.{ObjectName, Born, Literal, Value, Ref
 use Rattle.reference_machine.specs.States.{Monitor, Free, Contents, Instance, Array, HeapObject, Thread, State, entry_at, with_entry, same_kind_or_none, replaced_entry, replaced_at, fields_of_contents, elements_of_contents, with_fields, field_value, with_field, array_at, with_element, object_at, with_object, type_of_contents, type_of, monitor_of, with_monitor, next_name, with_birth, new_instance}
 use Rattle.reference_machine.specs.Steps.{with_thread_at}
 use Rattle.reference_machine.specs.Growth.{shape_of, shapes, Follows}
-use Rattle.reference_machine.proofs.Runs.StateChanges.{continues_itself, follows_object, follows_birth, follows_monitor, follows_statics, follows_field, follows_element}
+use Rattle.reference_machine.proofs.Runs.StateChanges.{continues_itself, item_passes, follows_object, follows_birth, follows_monitor, follows_statics, follows_field, follows_element}
 use Rattle.reference_machine.specs.TypedStates.{HasType, AllHaveType, HaveFieldTypes, has_objects, IsTypedContents, AreTypedFrames, IsTyped}
 use Rattle.reference_machine.proofs.TypedStates.ValueTypes.{monitor_keeps, elements_keep, fields_keep, contents_keep, frames_keep}
 use Rattle.reference_machine.proofs.TypedStates.StackOperands.{kinds_agree}
@@ -47,15 +47,11 @@ module _ (tree : Tree) (s : State) (typed : IsTyped tree s) where
   -- another object in place of one
   pub typed_object : (n : ℕ) (o : HeapObject) → Follows s (with_object s (Born n) o) → IsTypedContents tree (with_object s (Born n) o) o.contents → IsTyped tree (with_object s (Born n) o)
   typed_object n o follows contents = record {
-    objects = λ m x there. by_index x m (set_or_was s.objects n m o x there);
+    objects = λ m x there. item_passes (λ (y : HeapObject). IsTypedContents tree (with_object s (Born n) o) y.contents) o x contents (objects_on (with_object s (Born n) o) follows m x) (set_or_was s.objects n m o x there);
     literals = literals_on (with_object s (Born n) o) follows;
     statics = statics_on (with_object s (Born n) o) follows refl;
     threads = threads_on (with_object s (Born n) o) follows;
   }
-    where
-      by_index : (x : HeapObject) (m : ℕ) → (x ≡ o) ⊎ (slice_get s.objects m ≡ Some x) → IsTypedContents tree (with_object s (Born n) o) x.contents
-      by_index x m (inl is) = subst (λ (y : HeapObject). IsTypedContents tree (with_object s (Born n) o) y.contents) (sym is) contents
-      by_index x m (inr was) = objects_on (with_object s (Born n) o) follows m x was
 
   -- the same, of a name that is an object's
   pub typed_object_at : (n : ObjectName) (o : HeapObject) → Follows s (with_object s n o) → IsTypedContents tree (with_object s n o) o.contents → IsTyped tree (with_object s n o)
@@ -119,33 +115,21 @@ module _ (tree : Tree) (s : State) (typed : IsTyped tree s) where
 
   -- one thread more
   pub typed_thread_more : (thread : Thread) → (thread.ended ≡ None → AreTypedFrames tree s thread.frames) → IsTyped tree (record s { threads = s.threads ++ thread ∷ [] })
-  typed_thread_more thread frames = typed_threads (s.threads ++ thread ∷ []) (λ n x there. by_index n x (last_or_was s.threads n thread x there))
-    where
-      by_index : (n : ℕ) (x : Thread) → (x ≡ thread) ⊎ (slice_get s.threads n ≡ Some x) → x.ended ≡ None → AreTypedFrames tree s x.frames
-      by_index n x (inl is) live = subst (λ (y : Thread). y.ended ≡ None → AreTypedFrames tree s y.frames) (sym is) frames live
-      by_index n x (inr was) live = typed.threads n x was live
+  typed_thread_more thread frames = typed_threads (s.threads ++ thread ∷ []) (λ n x there. item_passes (λ (y : Thread). y.ended ≡ None → AreTypedFrames tree s y.frames) thread x frames (typed.threads n x) (last_or_was s.threads n thread x there))
 
   -- another thread in place of one
   pub typed_thread_at : (t : ℕ) (thread : Thread) → (thread.ended ≡ None → AreTypedFrames tree s thread.frames) → IsTyped tree (with_thread_at s t thread)
-  typed_thread_at t thread frames = typed_threads (slice_set s.threads t thread) (λ n x there. by_index n x (set_or_was s.threads t n thread x there))
-    where
-      by_index : (n : ℕ) (x : Thread) → (x ≡ thread) ⊎ (slice_get s.threads n ≡ Some x) → x.ended ≡ None → AreTypedFrames tree s x.frames
-      by_index n x (inl is) live = subst (λ (y : Thread). y.ended ≡ None → AreTypedFrames tree s y.frames) (sym is) frames live
-      by_index n x (inr was) live = typed.threads n x was live
+  typed_thread_at t thread frames = typed_threads (slice_set s.threads t thread) (λ n x there. item_passes (λ (y : Thread). y.ended ≡ None → AreTypedFrames tree s y.frames) thread x frames (typed.threads n x) (set_or_was s.threads t n thread x there))
 
   -- ---- births
 
   pub typed_birth : (contents : Contents) → IsTypedContents tree (with_birth s contents) contents → IsTyped tree (with_birth s contents)
   typed_birth contents is_typed = record {
-    objects = λ n o there. by_index n o (last_or_was s.objects n (record { contents = contents; monitor = Free; thread = None }) o there);
+    objects = λ n o there. item_passes (λ (x : HeapObject). IsTypedContents tree (with_birth s contents) x.contents) (record { contents = contents; monitor = Free; thread = None }) o is_typed (objects_on (with_birth s contents) (follows_birth s contents) n o) (last_or_was s.objects n (record { contents = contents; monitor = Free; thread = None }) o there);
     literals = literals_on (with_birth s contents) (follows_birth s contents);
     statics = statics_on (with_birth s contents) (follows_birth s contents) refl;
     threads = threads_on (with_birth s contents) (follows_birth s contents);
   }
-    where
-      by_index : (n : ℕ) (o : HeapObject) → (o ≡ record { contents = contents; monitor = Free; thread = None }) ⊎ (slice_get s.objects n ≡ Some o) → IsTypedContents tree (with_birth s contents) o.contents
-      by_index n o (inl is) = subst (λ (x : HeapObject). IsTypedContents tree (with_birth s contents) x.contents) (sym is) is_typed
-      by_index n o (inr was) = objects_on (with_birth s contents) (follows_birth s contents) n o was
 
 module _ (tree : Tree) (s : State) where
   -- ---- what is born has its type

@@ -34,18 +34,13 @@ use Rattle.reference_machine.specs.Arithmetic.{as_index}
 use Rattle.reference_machine.specs.States.{Contents, Instance, Array, HeapObject, Frame, State, entry_at, replaced_entry, type_of_contents, type_of, elements_of_contents, field_value, with_field, array_at, with_element, next_name, with_birth}
 use Rattle.reference_machine.specs.Effects.{StepContext, Effect, Raises, Sticks, when_some, not_null, onward}
 use Rattle.reference_machine.specs.Steps.{key_of, next, new_array, in_range, element, load_element, store_element, may_hold, store_reference, execute}
-use Rattle.reference_machine.proofs.Runs.StateChanges.{follows_birth, follows_field, follows_statics, follows_element}
+use Rattle.reference_machine.proofs.Runs.StateChanges.{follows_birth, follows_field, follows_statics, follows_element, mapped_some}
 use Rattle.reference_machine.specs.TypedStates.{IsObjectOf, HasType, HasStackType, HaveStackTypes, IsTyped}
 use Rattle.reference_machine.proofs.TypedStates.ValueTypes.{stack_keeps}
 use Rattle.reference_machine.proofs.TypedStates.RunningFrames.{IsTypedEffect, IsRunning, onward_typed, next_typed}
 use Rattle.reference_machine.proofs.TypedStates.StackOperands.{value_fits, from_int32, from_int64, from_index, from_reference, one_typed, two_typed, three_typed, was_allowed}
 use Rattle.reference_machine.proofs.TypedStates.StateChanges.{typed_birth, newborn_has_own_type, new_elements_typed, element_typed, loaded_static, stored_static, array_typed, stored_element, loaded_field, stored_field}
 use Rattle.reference_machine.proofs.Programs.DeclaredFields.{HasField, static_field_there, field_there}
-
--- what is mapped to a value was there
-mapped_some : {X Y P : Type 0} (g : X → Y) (o : Option X) (y : Y) → option_map g o ≡ Some y → ((x : X) → o ≡ Some x → g x ≡ y → P) → P
-mapped_some g None y e go = none_is_some y e
-mapped_some g (Some x) y e go = go x refl (same_Some (g x) y e)
 
 module _ (tree : Tree) where
   -- an array's own elements may be given where elements of another type are expected: one type, or references that fit
