@@ -1,21 +1,19 @@
 -- What a sound heap says of its objects, in the terms of the collector's steps.
-use Rattle.std.proofs.Common.{◌≡◌, ℕ, ◌+◌, ◌-◌, ◌<◌, ◌≤◌, ◌||◌, Bool, true, false, List, [], length, refl, sym, ap, ◌∙◌, arith}
-use Rattle.std.specs.Prelude.{◌==◌, is_some, IsSome, Option, Some, None, option_map, slice_get, slice_index, unwrap_or}
+use Rattle.std.proofs.Common.{◌≡◌, ℕ, ◌+◌, ◌-◌, ◌<◌, ◌≤◌, Bool, true, List, [], length, refl, sym, ap, ◌∙◌, arith}
+use Rattle.std.specs.Prelude.{IsSome, Option, Some, None, option_map, slice_get, slice_index, unwrap_or}
 use Rattle.std.proofs.lemmas.Option.{slice_get-get_or, unwrap_or-slice_get}
 use Rattle.cil_model.specs.declared.limits.TheConstants.{MOST_WORDS}
-use Rattle.cil_model.specs.declared.phases.Phase.TheVariants.{Mark, Copy}
 use Rattle.cil_model.specs.declared.trees.Tree.{Tree}
 use Rattle.class_layout.specs.Layouts.{IsLayout}
 use Rattle.class_layout.specs.declared.layout.Layout.{Layout}
 use Rattle.object_memory.specs.declared.addresses.Addr.{Addr}
-use Rattle.object_memory.specs.Cells.{Cell, Cells, size, used_words, cell_in, literal_number, address_after_cell, begins_after}
-use Rattle.object_memory.specs.Spaces.{Spaces, IsSpace, AreSpaces, first_of, cell_at, is_there, slots_at}
+use Rattle.object_memory.specs.Cells.{Cell, Cells, size, used_words, cell_in, address_after_cell, begins_after}
+use Rattle.object_memory.specs.Spaces.{Spaces, IsSpace, AreSpaces, cell_at, is_there, slots_at}
 use Rattle.object_memory.specs.Objects.{Objects}
 use Rattle.object_memory.proofs.Blocks.{range_in}
 use Rattle.object_memory.proofs.TwoSpaces.TwoBlocks.{new_is_cell, old_is_cell}
 use Rattle.object_memory.specs.declared.kinds.Kind.{Kind}
 use Rattle.collector.specs.References.{SlotsPass, Test, holds_reference, reference_in}
-use Rattle.collector.specs.Phases.{is_live, is_marked_cell}
 use Rattle.collector.specs.MarkSteps.{word_of}
 use Rattle.collector.specs.Conditions.{IsReadable}
 
@@ -74,27 +72,6 @@ readable layout tree o test layout_is a c slot at inside there passes =
       inside = inside;
       reference = λ holds. there (reference_in (word_of c slot)) (passes slot (word_of c slot) (word_decoded c slot inside) holds);
     }
-
--- ---- what is live
-
-permanent_or : (x y s t : Bool) → (s ≡ true → t ≡ true) → ((x || y) || s) ≡ true → (x || (y || t)) ≡ true
-permanent_or false false s t h e = h e
-permanent_or _ _ s t h e = refl
-
-some_there : (o p : Option Cell) → is_some o ≡ true → is_some (first_of o p) ≡ true
-some_there None p e = absurd cc
-some_there (Some c) p e = refl
-
-marked_there : (o p : Option Cell) → is_marked_cell o ≡ true → is_some (first_of o p) ≡ true
-marked_there None p e = absurd cc
-marked_there (Some c) p e = refl
-
--- what is live in Mark and in Copy is there
-pub live_in_mark : (o : Objects) (b : Addr) → is_live Mark o.spaces b ≡ true → is_there o.spaces b ≡ true
-live_in_mark o b e = permanent_or (b.number == 0) (is_some (literal_number b)) (is_some (cell_in o.spaces.old b)) (is_some (cell_at o.spaces b)) (some_there (cell_in o.spaces.old b) (cell_in o.spaces.new b)) e
-
-pub live_in_copy : (o : Objects) (b : Addr) → is_live Copy o.spaces b ≡ true → is_there o.spaces b ≡ true
-live_in_copy o b e = permanent_or (b.number == 0) (is_some (literal_number b)) (is_marked_cell (cell_in o.spaces.old b)) (is_some (cell_at o.spaces b)) (marked_there (cell_in o.spaces.old b) (cell_in o.spaces.new b)) e
 
 -- ---- what lies there
 

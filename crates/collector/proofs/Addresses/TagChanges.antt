@@ -64,7 +64,7 @@ map_itself None = refl
 map_itself (Some c) = refl
 
 -- what lies where after a change of the cell at an address, also where none lies there
-pub changed_is : (f : Cell → Cell) → KeepsTags f → (s : Cells) (a x : Addr) → cell_in (change_in f s a) x ≡ option_map (only_at f a x) (cell_in s x)
+pub changed_is : (f : Cell → Cell) → ((c : Cell) → size (f c) ≡ size c) → (s : Cells) (a x : Addr) → cell_in (change_in f s a) x ≡ option_map (only_at f a x) (cell_in s x)
 changed_is f keeps s a x = by_test (a.number == x.number) refl
   where
     at_own : (o : Option Cell) → cell_in s a ≡ o → cell_in (change_in f s a) a ≡ option_map f o
@@ -75,30 +75,17 @@ changed_is f keeps s a x = by_test (a.number == x.number) refl
     by_test true test =
         let same = same_address a x test in
         subst (λ (y : Addr). cell_in (change_in f s a) y ≡ option_map f (cell_in s y)) same (at_own (cell_in s a) refl ∙ refl)
-    by_test false test = other_in f (keeps_size f keeps) s a x (λ e. absurd (grind (arith, nat_tests))) ∙ sym (map_itself (cell_in s x))
+    by_test false test = other_in f keeps s a x (λ e. absurd (grind (arith, nat_tests))) ∙ sym (map_itself (cell_in s x))
 
-module _ (f : Cell → Cell) (keeps : KeepsTags f) where
-  some_stays : (o : Option Cell) → is_some (option_map f o) ≡ is_some o
-  some_stays None = refl
-  some_stays (Some c) = refl
-
-  marks_stay : (o : Option Cell) → is_marked_cell (option_map f o) ≡ is_marked_cell o
-  marks_stay None = refl
-  marks_stay (Some c) = keeps.marked c
-
-  others_stay : (o : Option Cell) → other_of (option_map f o) ≡ other_of o
-  others_stay None = refl
-  others_stay (Some c) = keeps.other c
-
-module _ (f : Cell → Cell) (keeps : KeepsTags f) (s : Cells) (a x : Addr) where
-  lies_still : is_some (cell_in (change_in f s a) x) ≡ is_some (cell_in s x)
-  lies_still = ap is_some (changed_is f keeps s a x) ∙ some_stays (only_at f a x) (only_keeps_tags f keeps a x) (cell_in s x)
-
-  marked_still : is_marked_cell (cell_in (change_in f s a) x) ≡ is_marked_cell (cell_in s x)
-  marked_still = ap is_marked_cell (changed_is f keeps s a x) ∙ marks_stay (only_at f a x) (only_keeps_tags f keeps a x) (cell_in s x)
-
-  other_still : other_of (cell_in (change_in f s a) x) ≡ other_of (cell_in s x)
-  other_still = ap other_of (changed_is f keeps s a x) ∙ others_stay (only_at f a x) (only_keeps_tags f keeps a x) (cell_in s x)
+-- what is read of a cell alike before and after the change is read alike at each address
+pub read_alike : {X : Type 0} (read : Option Cell → X) (f : Cell → Cell) → ((c : Cell) → size (f c) ≡ size c) → ((c : Cell) → read (Some (f c)) ≡ read (Some c)) → (s : Cells) (a x : Addr)
+    → read (cell_in (change_in f s a) x) ≡ read (cell_in s x)
+read_alike read f keeps alike s a x = ap read (changed_is f keeps s a x) ∙ by_cell (a.number == x.number) (cell_in s x)
+  where
+    by_cell : (t : Bool) (o : Option Cell) → read (option_map (λ (c : Cell). if t then f c else c) o) ≡ read o
+    by_cell t None = refl
+    by_cell true (Some c) = alike c
+    by_cell false (Some c) = refl
 
 -- ---- two blocks
 
@@ -133,10 +120,10 @@ alike_then m n o first second = record {
 -- a change of one cell of each block
 pub twice_alike : (f g : Cell → Cell) → KeepsTags f → KeepsTags g → (m : Spaces) (a b : Addr) → AreAlike m (twice f g m a b)
 twice_alike f g keeps keeps' m a b = record {
-  old = λ x. lies_still f keeps m.old a x;
-  marked = λ x. marked_still f keeps m.old a x;
-  new = λ x. lies_still g keeps' m.new b x;
-  forwards = λ x. ap (λ (o : Option Addr). unwrap_or o x) (other_still f keeps m.old a x);
+  old = λ x. read_alike is_some f (keeps_size f keeps) (λ c. refl) m.old a x;
+  marked = λ x. read_alike is_marked_cell f (keeps_size f keeps) keeps.marked m.old a x;
+  new = λ x. read_alike is_some g (keeps_size g keeps') (λ c. refl) m.new b x;
+  forwards = λ x. ap (λ (o : Option Addr). unwrap_or o x) (read_alike other_of f (keeps_size f keeps) keeps.other m.old a x);
   grey = refl;
   has_marked = refl;
 }

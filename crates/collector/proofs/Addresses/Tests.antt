@@ -21,6 +21,7 @@ use Rattle.collector.specs.Phases.{is_live, is_live_object, is_marked_address, i
 use Rattle.collector.specs.Soundness.{AreCopied, IsSoundHeap}
 use Rattle.collector.specs.Holds.{AnyLive, Hold, MarkedOnly, NewOnly, hold_of, is_flipping, is_marking, may_hold, passes, static_may_hold}
 use Rattle.collector.specs.declared.progress.Progress.{Progress}
+pub use Rattle.cil_model.proofs.SameLaws.{never}
 
 -- ---- what passes a test passes a weaker one
 
@@ -33,28 +34,29 @@ value_weakens P Q f _ h = tt
 
 -- ---- the cells of tests
 
--- what is false is not true
-pub never : {A : Type 0} → false ≡ true → A
-never {A} e = absurd cc
+-- what is there, and where a marked cell is
+pub some_there : {A : Type 0} (o : Option A) → is_some o ≡ true → (x : A) × (o ≡ Some x)
+some_there None h = never h
+some_there (Some x) h = (x, refl)
 
-marked_cell_by : (o : Option Cell) → is_marked_cell o ≡ true → (c : Cell) × (o ≡ Some c) × (c.marked ≡ true)
-marked_cell_by None h = never h
-marked_cell_by (Some c) h = (c, refl, h)
+pub marked_there : (o : Option Cell) → is_marked_cell o ≡ true → (c : Cell) × (o ≡ Some c) × (c.marked ≡ true)
+marked_there None h = never h
+marked_there (Some c) h = (c, refl, h)
 
-some_by : (o : Option Cell) → is_some o ≡ true → (c : Cell) × (o ≡ Some c)
-some_by None h = never h
-some_by (Some c) h = (c, refl)
+-- addresses of one number are one
+pub same_address : (a b : Addr) → a.number ≡ b.number → a ≡ b
+same_address a b e = ap (λ (n : ℕ). record { number = n }) e
 
 module _ (m : Spaces) (a : Addr) where
   -- the cell of a marked address, an old one and a new one
   pub marked_cell : is_marked_old m a ≡ true → (c : Cell) × (cell_in m.old a ≡ Some c) × (c.marked ≡ true)
-  marked_cell h = marked_cell_by (cell_in m.old a) h
+  marked_cell h = marked_there (cell_in m.old a) h
 
   pub old_cell : is_old m a ≡ true → (c : Cell) × (cell_in m.old a ≡ Some c)
-  old_cell h = some_by (cell_in m.old a) h
+  old_cell h = some_there (cell_in m.old a) h
 
   pub new_cell : is_new m a ≡ true → (c : Cell) × (cell_in m.new a ≡ Some c)
-  new_cell h = some_by (cell_in m.new a) h
+  new_cell h = some_there (cell_in m.new a) h
 
   module _ (c : Cell) where
     -- the tests at the address of a cell
@@ -159,7 +161,7 @@ module _ (m : Spaces) (spaces : AreSpaces m) (a : Addr) (c : Cell) where
   new_object_is_late _ e h = refl
 
   -- a cell is live as an object alone
-  live_object : (posted_phase : Phase) → cell_at m a ≡ Some c → is_live posted_phase m a ≡ true → is_live_object posted_phase m a ≡ true
+  pub live_object : (posted_phase : Phase) → cell_at m a ≡ Some c → is_live posted_phase m a ≡ true → is_live_object posted_phase m a ≡ true
   live_object posted_phase e h = elim (or_cases (is_permanent a) (is_live_object posted_phase m a) h) [
     | inl permanent ↦ never (sym (cell_not_permanent m spaces a c e) ∙ permanent)
     | inr live ↦ live
@@ -218,11 +220,11 @@ HoldMeans posted_phase has_round m AnyLive = Unit {0}
 HoldMeans posted_phase has_round m MarkedOnly = (posted_phase ≡ Mark) × (has_round ≡ true) × (m.has_marked ≡ false)
 HoldMeans posted_phase has_round m NewOnly = is_new_live posted_phase ≡ true
 
-marking_is_mark : (posted_phase : Phase) → is_marking posted_phase ≡ true → posted_phase ≡ Mark
+pub marking_is_mark : (posted_phase : Phase) → is_marking posted_phase ≡ true → posted_phase ≡ Mark
 marking_is_mark Mark h = refl
 marking_is_mark _ h = never h
 
-flipping_is_late : (posted_phase : Phase) → is_flipping posted_phase ≡ true → is_new_live posted_phase ≡ true
+pub flipping_is_late : (posted_phase : Phase) → is_flipping posted_phase ≡ true → is_new_live posted_phase ≡ true
 flipping_is_late ThreadFlip h = refl
 flipping_is_late Reclaim h = refl
 flipping_is_late _ h = never h

@@ -25,9 +25,11 @@ use Rattle.collector.specs.Holds.{AnyLive, HasNotBegun, Hold, IsOnTime, MarkedOn
 use Rattle.object_memory.specs.Spaces.{is_old}
 use Rattle.collector.specs.References.{is_permanent}
 use Rattle.collector.specs.declared.progress.Progress.{Progress}
-use Rattle.collector.proofs.Addresses.GrowingBlocks.{TestsStay, false_true}
+use Rattle.collector.proofs.Addresses.GrowingBlocks.{TestsStay}
 use Rattle.collector.proofs.Births.HeapsAfterBirths.{Suits, born_flags, born_forward, born_heap, born_not_begun, born_stays}
 use Rattle.collector.proofs.Births.NewCells.{IsBirth, birth_in}
+use Rattle.cil_model.proofs.SameLaws.{never}
+use Rattle.collector.proofs.Addresses.Tests.{marking_is_mark}
 
 -- ---- what a thread may hold of what it bore
 
@@ -84,7 +86,7 @@ module _ (m : Spaces) (h : AreSpaces m) (k : Kind) (n : ℕ) (p : Progress) wher
       → Suits hold posted_phase p m k n Listed
   listed hold posted_phase within unlooked held = record {
     early = λ e. inr refl;
-    between = λ e. false_true (sym e ∙ within);
+    between = λ e. never (sym e ∙ within);
     unlooked = λ is. unlooked;
     room = λ e is. absurd cc;
     clear = λ e is. absurd cc;
@@ -94,8 +96,8 @@ module _ (m : Spaces) (h : AreSpaces m) (k : Kind) (n : ℕ) (p : Progress) wher
   in_both : (hold : Hold) (posted_phase : Phase) → is_before_copies posted_phase ≡ false → is_of_cycle posted_phase ≡ true → posted_phase ≢ Reclaim → passes hold posted_phase (give_birth InBoth m k n) (next_address m.old) ≡ true
       → Suits hold posted_phase p m k n InBoth
   in_both hold posted_phase late within further held = record {
-    early = λ e. false_true (sym late ∙ e);
-    between = λ e. false_true (sym e ∙ within);
+    early = λ e. never (sym late ∙ e);
+    between = λ e. never (sym e ∙ within);
     unlooked = λ is. absurd cc;
     room = λ e is. absurd cc;
     clear = λ e is. further e;
@@ -105,8 +107,8 @@ module _ (m : Spaces) (h : AreSpaces m) (k : Kind) (n : ℕ) (p : Progress) wher
   in_new : (hold : Hold) (posted_phase : Phase) → is_before_copies posted_phase ≡ false → is_of_cycle posted_phase ≡ true → ((posted_phase ≡ Mark) ⊎ (posted_phase ≡ Allocate) → ⊥) → passes hold posted_phase (give_birth InNew m k n) (next_address m.new) ≡ true
       → Suits hold posted_phase p m k n InNew
   in_new hold posted_phase late within further held = record {
-    early = λ e. false_true (sym late ∙ e);
-    between = λ e. false_true (sym e ∙ within);
+    early = λ e. never (sym late ∙ e);
+    between = λ e. never (sym e ∙ within);
     unlooked = λ is. absurd cc;
     room = λ e is. further e;
     clear = λ e is. absurd cc;
@@ -299,16 +301,11 @@ module _ (tree : Tree) (h : Handshakes) (seat : Seat) (close : IsClose h seat) (
   held : passes (birth_hold seat.phase h.posted_phase) h.posted_phase o'.spaces a ≡ true
   held = birth_held tree seat.phase h.posted_phase near h.has_round words p o time sound k n o' a e
 
-  -- marking is done in Mark alone
-  marking_is : (x : Phase) → is_marking x ≡ true → x ≡ Mark
-  marking_is Mark is = refl
-  marking_is _ is = absurd cc
-
   -- a thread that has answered a round has acknowledged Mark, and bears marked objects
   in_round : is_marking h.posted_phase ≡ true → h.has_round ≡ true → is_marked_address o'.spaces a ≡ true
   in_round marking round = elim near [
-    | inl is ↦ birth_marked tree seat.phase h.posted_phase near h.has_round words p o time sound k n o' a e (is ∙ marking_is h.posted_phase marking)
-    | inr is ↦ false_true (sym ((time (λ same. phase_continues seat.phase (is ∙ sym same))).no_round (marking_is h.posted_phase marking)) ∙ round)
+    | inl is ↦ birth_marked tree seat.phase h.posted_phase near h.has_round words p o time sound k n o' a e (is ∙ marking_is_mark h.posted_phase marking)
+    | inr is ↦ never (sym ((time (λ same. phase_continues seat.phase (is ∙ sym same))).no_round (marking_is_mark h.posted_phase marking)) ∙ round)
   ]
 
   -- by what it has acknowledged and answered

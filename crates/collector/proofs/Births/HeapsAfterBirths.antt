@@ -23,7 +23,11 @@ use Rattle.collector.specs.Soundness.{AreBlocks, IsCleared, AreCopied, AreCopies
 use Rattle.collector.specs.Holds.{HasNotBegun, Hold, passes}
 use Rattle.collector.specs.declared.progress.Progress.{Progress}
 use Rattle.collector.proofs.BlockWalks.CollectorOffsets.{HasCursor-born}
-use Rattle.collector.proofs.Addresses.GrowingBlocks.{IsLying, TestsStay, false_true, forward_permanent, in_new, in_old, live_lies, live_stays, marked_stays, marked_there, new_stays, permanent, slots_weaken, some_there}
+use Rattle.collector.proofs.Addresses.GrowingBlocks.{IsLying, TestsStay, forward_permanent, in_new, in_old, live_lies, live_stays, marked_stays, new_stays, permanent}
+use Rattle.cil_model.proofs.SameLaws.{never}
+use Rattle.collector.proofs.Addresses.Tests.{marked_there, same_address, slots_weaken, some_there}
+use Rattle.collector.proofs.Marks.MarkedHeaps.{listed-before, listed-last}
+use Rattle.collector.proofs.PhaseChanges.LaterPhases.{AreBlocks-kept}
 
 -- ---- offsets
 
@@ -88,17 +92,6 @@ module _ (p : Progress) (m m' : Spaces) (start : m'.old.start ≡ m.old.start) (
   looked_before Allocate h = subst (λ s. a.number < s + p.cursor) start h
   looked_before _ h = h
 
--- ---- lists of addresses
-
-pub listed_before : (xs : List Addr) (b a : Addr) → IsListed xs a → IsListed (xs ++ b ∷ []) a
-listed_before [] b a h = elim h [ ]
-listed_before (x ∷ xs) b a (inl e) = inl e
-listed_before (x ∷ xs) b a (inr h) = inr (listed_before xs b a h)
-
-pub listed_last : (xs : List Addr) (b : Addr) → IsListed (xs ++ b ∷ []) b
-listed_last [] b = inl refl
-listed_last (x ∷ xs) b = inr (listed_last xs b)
-
 -- the heads of equal lists
 first_is : (x g : Addr) (xs rest : List Addr) → x ∷ xs ≡ g ∷ rest → x ≡ g
 first_is x g xs rest e = cc
@@ -112,10 +105,6 @@ pub record Suits (hold : Hold) (posted_phase : Phase) (p : Progress) (m : Spaces
   pub room : (posted_phase ≡ Mark) ⊎ (posted_phase ≡ Allocate) → space ≢ InNew
   pub clear : posted_phase ≡ Reclaim → space ≢ InBoth
   pub held : passes hold posted_phase (give_birth space m k n) (address_at space m) ≡ true
-
--- addresses of one number are one
-pub same_address : (a b : Addr) → a.number ≡ b.number → a ≡ b
-same_address a b e = ap (λ (number : ℕ). record { number = number }) e
 
 module _ (m : Spaces) (k : Kind) (n : ℕ) where
   -- ---- what a birth leaves
@@ -145,7 +134,7 @@ module _ (m : Spaces) (k : Kind) (n : ℕ) where
 
   -- what was grey is grey
   grey_before : (space : BirthSpace) (a : Addr) → IsListed m.grey a → IsListed (give_birth space m k n).grey a
-  grey_before Listed a h = listed_before m.grey (next_address m.old) a h
+  grey_before Listed a h = listed-before m.grey (next_address m.old) a h
   grey_before _ a h = h
 
   -- ---- the parts
@@ -159,7 +148,7 @@ module _ (m : Spaces) (k : Kind) (n : ℕ) where
   listed_part : (space : BirthSpace) → is_marked_cell (old_part space m k n) ≡ true → other_of (old_part space m k n) ≡ None → space ≡ Listed
   listed_part Listed e none = refl
   listed_part InBoth e none = elim (none-some (next_address m.new) (sym none)) [ ]
-  listed_part _ e none = false_true e
+  listed_part _ e none = never e
 
   -- one with another copy is marked
   marked_part : (space : BirthSpace) → other_of (old_part space m k n) ≢ None → is_marked_cell (old_part space m k n) ≡ true
@@ -289,16 +278,9 @@ module _ (tree : Tree) (hold : Hold) (posted_phase : Phase) (has_round : Bool) (
 
   -- the blocks are as they should be in the phase
   born_blocks : AreBlocks posted_phase words m'
-  born_blocks = record {
-    few = sound.blocks.few;
-    spaces = h';
-    held = (born_flags m k n space).0 ∙ sound.blocks.held;
-    old_words = subst (λ w. w ≤ words) (sym (born_words m k n space).0) sound.blocks.old_words;
-    new_words = subst (λ w. w ≤ (if is_of_cycle posted_phase then words else 0)) (sym (born_words m k n space).1) sound.blocks.new_words;
-    grows = λ e. (let b = born_words m k n space in let g = sound.blocks.grows e in omega (arith, b.0, b.1, g));
-    none_new = λ e. none_added m k n space (suits.early e) ∙ sound.blocks.none_new e;
-    none_grey = λ e. ap (λ x. (give_birth x m k n).grey) (suits.between e) ∙ sound.blocks.none_grey e;
-  }
+  born_blocks =
+      AreBlocks-kept posted_phase posted_phase words m m' sound.blocks refl h' (born_flags m k n space).0 (born_words m k n space).0 (born_words m k n space).1
+      (λ e. none_added m k n space (suits.early e) ∙ sound.blocks.none_new e) (λ e. ap (λ x. (give_birth x m k n).grey) (suits.between e) ∙ sound.blocks.none_grey e)
 
   -- ---- copies
 
@@ -493,8 +475,8 @@ module _ (tree : Tree) (hold : Hold) (posted_phase : Phase) (has_round : Bool) (
     born_all_grey all a e = by_cell (marked_there (cell_in m'.old a) e)
       where
         by_index : (space ≡ InOld) ⊎ (space ≡ Listed) → (c : Cell) → c.marked ≡ true → a ≡ next_address m.old → old_part space m k n ≡ Some c → IsListed m'.grey a
-        by_index (inl is) c marked at part = false_true (sym (ap (λ x. is_marked_cell (old_part x m k n)) is) ∙ ap is_marked_cell part ∙ marked)
-        by_index (inr is) c marked at part = subst (λ xs. IsListed xs a) (sym (ap (λ x. (give_birth x m k n).grey) is)) (subst (IsListed (m.grey ++ next_address m.old ∷ [])) (sym at) (listed_last m.grey (next_address m.old)))
+        by_index (inl is) c marked at part = never (sym (ap (λ x. is_marked_cell (old_part x m k n)) is) ∙ ap is_marked_cell part ∙ marked)
+        by_index (inr is) c marked at part = subst (λ xs. IsListed xs a) (sym (ap (λ x. (give_birth x m k n).grey) is)) (subst (IsListed (m.grey ++ next_address m.old ∷ [])) (sym at) (listed-last m.grey (next_address m.old)))
 
         by_cell : (c : Cell) × (cell_in m'.old a ≡ Some c) × (c.marked ≡ true) → IsListed m'.grey a
         by_cell r = elim (was_old a r.0 r.1) [

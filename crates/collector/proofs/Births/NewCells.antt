@@ -16,8 +16,8 @@ use Rattle.object_memory.specs.Objects.{Objects, object_cell}
 use Rattle.object_memory.proofs.Blocks.{next_in}
 use Rattle.object_memory.proofs.Births.{AreSpaces-born, born-kept, born-kept_new, born-kept_old, born-new_last, born-old_last, born-was_new, born-was_old, new_part, old_part}
 use Rattle.object_memory.proofs.TwoSpaces.TwoBlocks.{either, forward_bare, forward_copy, forward_new, new_is_cell, not_new, not_old, old_is_cell}
-use Rattle.collector.proofs.Addresses.GrowingBlocks.{false_true}
-use Rattle.collector.proofs.Births.HeapsAfterBirths.{same_address}
+use Rattle.cil_model.proofs.SameLaws.{never}
+use Rattle.collector.proofs.Addresses.Tests.{same_address}
 
 -- ---- what a birth is
 
@@ -216,7 +216,7 @@ module _ (own : Phase) (k : Kind) (n : ℕ) (o : Objects) (h : AreSpaces o.space
         others = λ b c lies. born-kept m h k n space room b c lies;
         came = all_came;
         twin = λ two. main_twin space room is (sym is ∙ both_of own m.is_open two);
-        alone = λ one. main_alone space room (λ both. false_true (sym one ∙ two_of own m.is_open (is ∙ both)));
+        alone = λ one. main_alone space room (λ both. never (sym one ∙ two_of own m.is_open (is ∙ both)));
         literals = refl;
       }
     where

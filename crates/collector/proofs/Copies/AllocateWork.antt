@@ -1,6 +1,6 @@
 -- The work of Allocate keeps the heap sound: an object that is marked gets its copy, the cursor moves on, and at the end of it each marked object has one.
-use Rattle.std.proofs.Common.{◌≡◌, ◌≢◌, ◌⊎◌, inl, inr, ℕ, zero, suc, ◌+◌, ◌<◌, Bool, true, false, length, refl, sym, ap, subst, ◌∙◌, arith}
-use Rattle.std.specs.Prelude.{◌&&◌, is_none, if◌then◌else◌, replicate, Option, Some, None, slice_get}
+use Rattle.std.proofs.Common.{◌≡◌, ◌≢◌, ◌⊎◌, inl, inr, ℕ, ◌+◌, ◌<◌, Bool, true, false, length, refl, sym, ap, subst, ◌∙◌, arith}
+use Rattle.std.specs.Prelude.{◌&&◌, is_none, if◌then◌else◌, Option, Some, None}
 use Rattle.std.proofs.lemmas.List.{length-replicate}
 use Rattle.std.proofs.lemmas.Option.{same_Some}
 use Rattle.cil_model.specs.declared.phases.Phase.TheVariants.{Allocate, Copy}
@@ -14,25 +14,19 @@ use Rattle.object_memory.proofs.Offsets.{cell, end, at_offset, below_next}
 use Rattle.object_memory.proofs.Rooms.{HasShellRoom-shell}
 use Rattle.object_memory.proofs.TwoSpaces.TwoBlocks.{own, still, after_in, before_in}
 use Rattle.object_memory.proofs.TwoSpaces.TwoCopies.{AreSpaces-shell, shell-old, shell-new, shell-kept_new, shell-was_new}
-use Rattle.collector.specs.References.{SlotsPass}
-use Rattle.collector.specs.Phases.{HasCopied, HasLooked, is_live, is_marked_old, is_new_address, no_progress}
-use Rattle.collector.specs.Soundness.{AreBlocks, AreCopies, AreCopied, IsSoundHeap}
+use Rattle.collector.specs.References.{SlotsPass, is_permanent}
+use Rattle.collector.specs.Phases.{HasLooked, is_live, is_marked_old, is_new_address, no_progress, is_marked_cell}
+use Rattle.collector.specs.Soundness.{AreBlocks, AreCopies, AreCopied, IsSoundHeap, IsInCopy}
 use Rattle.collector.specs.CopySteps.{address_after_cell, next_shell_step, needs_copy, shell_step}
 use Rattle.collector.specs.declared.progress.Progress.{Progress}
 use Rattle.collector.proofs.BlockWalks.ChangedBlocks.{IsOffset-change}
 use Rattle.collector.proofs.BlockWalks.CollectorOffsets.{HasCursor-begun}
-use Rattle.collector.proofs.Copies.CopyTests.{marks_stay, new_stays, permanent_or, same_address, slots_weaken, some_is_other}
-
--- ---- slots of a copy without words
-
-zeros : (n slot word : ℕ) → slice_get (replicate n 0) slot ≡ Some word → word ≡ 0
-zeros zero slot word e = absurd cc
-zeros (suc n) zero word e = cc
-zeros (suc n) (suc slot) word e = zeros n slot word e
-
--- 0 is null, which is new always
-shell_passes : (tree : Tree) (m : Spaces) (a : Addr) (c : Cell) → SlotsPass tree (is_new_address m) (shell_of a c)
-shell_passes tree m a c slot word there holds = rw (zeros (length c.slots) slot word there) refl
+use Rattle.collector.proofs.Copies.CopyTests.{new_stays, some_is_other}
+use Rattle.collector.proofs.Addresses.Tests.{same_address, slots_weaken}
+use Rattle.collector.proofs.Addresses.Disjunctions.{or_more}
+use Rattle.collector.proofs.Addresses.TagChanges.{read_alike}
+use Rattle.collector.proofs.Births.HeapsAfterBirths.{zeros_pass}
+use Rattle.collector.proofs.PhaseChanges.LaterPhases.{AreBlocks-kept, IsSoundHeap-on}
 
 -- while copies are made, two copies agree where their headers do
 are_shells : (tree : Tree) (p : Progress) (m : Spaces) (a : Addr) (c d : Cell) → d.kind ≡ c.kind → length d.slots ≡ length c.slots → d.other ≡ Some a → AreCopies tree Allocate p m a c d
@@ -125,7 +119,7 @@ module _ (tree : Tree) (has_round : Bool) (words : ℕ) (p : Progress) (m : Spac
         by_case (kept was) = sound.copies.marked_only x d was other
 
     live_stays : (x : Addr) → is_live Allocate m x ≡ true → is_live Allocate after x ≡ true
-    live_stays x h = permanent_or x (is_marked_old m x) (is_marked_old after x) (marks_stay (set_other b) (λ z. refl) (λ z. refl) m.old a x) h
+    live_stays x h = or_more (is_permanent x) (is_marked_old m x) (is_marked_old after x) (λ was. read_alike is_marked_cell (set_other b) (λ z. refl) (λ z. refl) m.old a x ∙ was) h
 
     old_then : (x : Addr) (d : Cell) → cell_in after.old x ≡ Some d → d.marked ≡ true → SlotsPass tree (is_live Allocate after) d
     old_then x d at dark = by_case (was_old x d at)
@@ -142,7 +136,7 @@ module _ (tree : Tree) (has_round : Bool) (words : ℕ) (p : Progress) (m : Spac
 
         by_case : (cell_in m.new y ≡ Some e) ⊎ ((y.number ≡ b.number) × (e ≡ shell_of a c)) → SlotsPass tree (is_new_address after) e
         by_case (inl was) = slots_weaken tree (is_new_address m) (is_new_address after) stays e (sound.copies.new_references y e was)
-        by_case (inr (same, is)) = subst (SlotsPass tree (is_new_address after)) (sym is) (shell_passes tree after a c)
+        by_case (inr (same, is)) = subst (SlotsPass tree (is_new_address after)) (sym is) (zeros_pass tree (is_new_address after) refl (shell_of a c) (length c.slots) refl)
 
     shell_copied : AreCopied tree Allocate p after
     shell_copied = record {
@@ -158,16 +152,8 @@ module _ (tree : Tree) (has_round : Bool) (words : ℕ) (p : Progress) (m : Spac
     }
 
     shell_blocks : AreBlocks Allocate words after
-    shell_blocks = record {
-      few = sound.blocks.few;
-      spaces = AreSpaces-shell m spaces room a c lies no_copy;
-      held = sound.blocks.held;
-      old_words = sound.blocks.old_words;
-      new_words = sound.blocks.new_words;
-      grows = sound.blocks.grows;
-      none_new = λ early. absurd cc;
-      none_grey = λ over. absurd cc;
-    }
+    shell_blocks =
+        AreBlocks-kept Allocate Allocate words m after sound.blocks refl (AreSpaces-shell m spaces room a c lies no_copy) refl refl refl (λ early. absurd cc) (λ over. absurd cc)
 
     shell_sound : IsSoundHeap tree Allocate has_round words p after
     shell_sound = record {
@@ -204,28 +190,11 @@ module _ (tree : Tree) (has_round : Bool) (words : ℕ) (p : Progress) (m : Spac
       | end is ↦ absurd (omega (arith, is, (range_in m.old (address_after_cell m.old p.cursor) c lies).1))
     ]
 
-    next_copied : AreCopied tree Allocate next m
-    next_copied = record {
-      no_copy = λ x d at early. absurd cc;
-      unmarked = λ x d at over. absurd cc;
-      out = λ x y d at other. (let r = sound.copies.out x y d at other in (r.0, r.1, are_shells tree next m x d r.0 r.2.kind r.2.count (r.2.back (inl (λ wrong. absurd cc)))));
-      back = sound.copies.back;
-      shells = next_shells;
-      marked_only = sound.copies.marked_only;
-      old_references = sound.copies.old_references;
-      new_references = sound.copies.new_references;
-      room = sound.copies.room;
-    }
-
     next_sound : IsSoundHeap tree Allocate has_round words next m
-    next_sound = record {
-      blocks = sound.blocks;
-      copies = next_copied;
-      cursor = record { offset = λ posted_phase. next_offset; attempts = λ posted_phase. absurd cc; words = λ posted_phase. absurd cc };
-      loaded = λ posted_phase. absurd cc;
-      marks = λ posted_phase. absurd cc;
-      cleared = λ posted_phase. absurd cc;
-    }
+    next_sound =
+        IsSoundHeap-on tree Allocate Allocate has_round has_round words p next m sound refl refl refl (λ e. absurd cc)
+        (λ x d word at some short is. elim is [ inl before ↦ elim before [ ] | inr stored ↦ (let wrong = stored.copying in absurd cc) ]) next_shells sound.copies.old_references
+        (λ e. sound.copies.room (inr e)) (record { offset = λ posted_phase. next_offset; attempts = λ posted_phase. absurd cc; words = λ posted_phase. absurd cc }) (λ e. absurd cc) (λ e. absurd cc)
 
 -- ---- a step
 
@@ -302,44 +271,14 @@ module _ (tree : Tree) (has_round : Bool) (words : ℕ) (p : Progress) (o : Obje
     all_shells x d at dark = sound.copies.shells x d at dark (let range = range_in o.spaces.old x d at in omega (arith, at_end, range.1))
 
     -- no word is copied yet
-    unfilled : (a : Addr) (c d : Cell) → cell_in o.spaces.old a ≡ Some c → AreCopies tree Allocate p o.spaces a c d → AreCopies tree Copy no_progress o.spaces a c d
-    unfilled a c d lies h = record {
-      kind = h.kind;
-      count = h.count;
-      back = λ posted_phase. h.back (inl (λ wrong. absurd cc));
-      words = λ word is. absurd (elim is [ inl done ↦ none word done | inr stored ↦ (let wrong = stored.stored in absurd cc) ]);
-    }
-      where
-        none : (word : ℕ) → HasCopied Copy no_progress o.spaces a word → ⊥
-        none word (inl before) = let range = range_in o.spaces.old a c lies in absurd (omega (arith, range.0, before))
-        none word (inr (same, few)) = absurd (omega (arith, few))
+    none_copied : (a : Addr) (c : Cell) (word : ℕ) → cell_in o.spaces.old a ≡ Some c → IsInCopy Copy no_progress o.spaces a c word → ⊥
+    none_copied a c word lies (inl (inl before)) = let range = range_in o.spaces.old a c lies in absurd (omega (arith, range.0, before))
+    none_copied a c word lies (inl (inr (same, few))) = absurd (omega (arith, few))
+    none_copied a c word lies (inr stored) = let wrong = stored.stored in absurd cc
 
     -- where no step of Allocate is left, Copy can be posted
     pub copy_posted : IsSoundHeap tree Copy has_round words no_progress o.spaces
-    copy_posted = record {
-      blocks = record {
-        few = sound.blocks.few;
-        spaces = sound.blocks.spaces;
-        held = sound.blocks.held;
-        old_words = sound.blocks.old_words;
-        new_words = sound.blocks.new_words;
-        grows = sound.blocks.grows;
-        none_new = λ early. absurd cc;
-        none_grey = λ over. absurd cc;
-      };
-      copies = record {
-        no_copy = λ x d at early. absurd cc;
-        unmarked = λ x d at over. absurd cc;
-        out = λ x y d at other. (let r = sound.copies.out x y d at other in (r.0, r.1, unfilled x d r.0 at r.2));
-        back = sound.copies.back;
-        shells = λ x d at dark looked. all_shells x d at dark;
-        marked_only = sound.copies.marked_only;
-        old_references = sound.copies.old_references;
-        new_references = sound.copies.new_references;
-        room = λ posted_phase. elim posted_phase [ inl wrong ↦ absurd cc | inr wrong ↦ absurd cc ];
-      };
-      cursor = HasCursor-begun Copy o.spaces;
-      loaded = λ copying is. absurd cc;
-      marks = λ posted_phase. absurd cc;
-      cleared = λ posted_phase. absurd cc;
-    }
+    copy_posted =
+        IsSoundHeap-on tree Allocate Copy has_round has_round words p no_progress o.spaces sound refl refl refl (λ e. absurd cc)
+        (λ a c word lies some short is. absurd (none_copied a c word lies is)) (λ x d at dark looked. all_shells x d at dark) sound.copies.old_references
+        (λ e. absurd cc) (HasCursor-begun Copy o.spaces) (λ copying is. absurd cc) (λ e. absurd cc)

@@ -20,8 +20,9 @@ use Rattle.collector.specs.declared.progress.Progress.{Progress}
 use Rattle.collector.specs.declared.progress.Stage.{Stage}
 use Rattle.collector.specs.declared.progress.Stage.TheVariants.{Loaded, Stored}
 use Rattle.collector.specs.declared.walks.FoundObject.{FoundObject}
-use Rattle.collector.proofs.Addresses.ObjectsInHeaps.{cell_there, live_in_copy, new_slots, readable, decoded}
+use Rattle.collector.proofs.Addresses.ObjectsInHeaps.{cell_there, new_slots, readable, decoded}
 use Rattle.collector.proofs.Copies.CopiesStepByStep.{at_offset_is, other_some, word_done, words_left}
+use Rattle.collector.proofs.ThreadReferences.LiveValues.{live_is_there}
 
 module _ (layout : Layout) (tree : Tree) (layout_is : IsLayout tree layout) (has_round : Bool) (words : ℕ) (p : Progress) (o : Objects) (sound : IsSoundHeap tree Copy has_round words p o.spaces) (f : FoundObject)
     (found : ◌≡◌ {A = Option FoundObject} (Some f) (option_map (found_at o.spaces.old) (found_in has_other o.spaces.old (o.spaces.old.start + p.cursor)))) (there : IsSome (cell_in o.spaces.old f.object))
@@ -55,7 +56,7 @@ module _ (layout : Layout) (tree : Tree) (layout_is : IsLayout tree layout) (has
   -- its slot can be read
   pub next_readable : 0 < k → IsReadable layout o f.object (k - 1) × (k ≤ length (slots_at o.spaces b))
   next_readable some = (
-    readable layout tree o (is_live Copy o.spaces) layout_is f.object from.0 (k - 1) from.1 (let few = few_here in omega (arith, some, few)) (live_in_copy o)
+    readable layout tree o (is_live Copy o.spaces) layout_is f.object from.0 (k - 1) from.1 (let few = few_here in omega (arith, some, few)) (live_is_there Copy o)
         (sound.copies.old_references f.object from.0 from.1 (sound.copies.marked_only f.object from.0 from.1 (other_some from.0 b refers))),
     in_copy,
   )
@@ -72,7 +73,7 @@ module _ (layout : Layout) (tree : Tree) (layout_is : IsLayout tree layout) (has
           layout_is = layout_is;
           cell = from.0;
           at = from.1;
-          reference = λ holds. live_in_copy o (reference_in p.attempt.word) (sound.loaded refl loaded from.0 lies (k - 1) next holds);
+          reference = λ holds. live_is_there Copy o (reference_in p.attempt.word) (sound.loaded refl loaded from.0 lies (k - 1) next holds);
         },
         in_copy,
       )

@@ -13,7 +13,7 @@ use Rattle.object_memory.specs.Objects.{Objects, with_cell}
 use Rattle.object_memory.proofs.Blocks.{range_in, unchanged_in}
 use Rattle.object_memory.proofs.Offsets.{cell, end, at_offset, below_next, found_here}
 use Rattle.object_memory.proofs.TwoSpaces.TwoBlocks.{own, still, AreSpaces-change, after_in, before_in, change-new_alone, not_old}
-use Rattle.collector.specs.References.{SlotsPass, holds_reference, reference_in}
+use Rattle.collector.specs.References.{SlotsPass, holds_reference, reference_in, is_permanent}
 use Rattle.collector.specs.Attempts.{has_loaded, most_spent, no_attempt, attempt_cost, stage_number, with_loaded}
 use Rattle.collector.specs.MarkSteps.{word_of}
 use Rattle.collector.specs.Phases.{HasCopied, is_live, is_marked_old, is_new, is_new_address, no_progress}
@@ -24,12 +24,16 @@ use Rattle.collector.specs.declared.progress.Progress.{Progress}
 use Rattle.collector.specs.declared.progress.Stage.{Stage}
 use Rattle.collector.specs.declared.progress.Stage.TheVariants.{Begins, Loaded, Stored}
 use Rattle.collector.specs.declared.progress.TheConstants.{MOST_FAILED_CHECKS}
-use Rattle.collector.proofs.BlockWalks.ChangedBlocks.{IsFound, IsOffset-cell, found_is, found_none}
-use Rattle.collector.proofs.Copies.CopyTests.{new_stays, other_there, permanent_or, same_address, slots_weaken, some_is_other, some_there}
+use Rattle.collector.proofs.BlockWalks.ChangedBlocks.{IsOffset-cell}
+use Rattle.collector.proofs.BlockWalks.FirstCells.{IsFound, found_is, none_found}
+use Rattle.collector.proofs.Copies.CopyTests.{new_stays, other_there, some_is_other}
 use Rattle.collector.proofs.Copies.CopiedWords.{are_copies, filled, filled_alike, filled_count, filled_keeps, filled_kind, filled_other, filled_own, filled_passes, filled_size, just_loaded, loaded_checks, loaded_stage, word_stored_is}
 use Rattle.collector.proofs.Addresses.ObjectsInHeaps.{word_decoded}
 use Rattle.collector.proofs.Copies.VisibleCopies.{forward_word_is_new}
 use Rattle.collector.proofs.BlockWalks.CollectorOffsets.{HasCursor-begun}
+use Rattle.collector.proofs.Addresses.Tests.{same_address, slots_weaken, some_there}
+use Rattle.collector.proofs.Addresses.Disjunctions.{or_more}
+use Rattle.collector.proofs.PhaseChanges.LaterPhases.{AreBlocks-kept, IsSoundHeap-on}
 
 has_some : (c : Cell) → c.other ≢ None → has_other c ≡ true
 has_some c ne = let o = other_there c.other ne in ap is_some o.1
@@ -85,7 +89,8 @@ module _ (tree : Tree) (has_round : Bool) (words : ℕ) (p : Progress) (m : Spac
         by_test true test = grind (arith, nat_tests)
         by_test false test =
             let following : from ≤ x.number = grind (arith, nat_tests) in
-            absurd (omega (arith, before, is.first x e there (has_some e some) following))
+            let wrong : true ≡ false = sym (has_some e some) ∙ is.before x e there following before in
+            absurd cc
 
     here_is : m.old.start + (at - m.old.start) ≡ at
     here_is = omega (arith, low)
@@ -116,32 +121,13 @@ module _ (tree : Tree) (has_round : Bool) (words : ℕ) (p : Progress) (m : Spac
 
       -- the heap is sound there, where nothing is stored
       before_sound : t.stage ≢ Stored → attempt_cost t ≤ most_spent → IsLoaded tree q m → IsSoundHeap tree Copy has_round words q m
-      before_sound not_stored most loaded = record {
-        blocks = sound.blocks;
-        copies = record {
-          no_copy = λ x d there early. absurd cc;
-          unmarked = λ x d there over. absurd cc;
-          out = λ x y e there some. (let r = sound.copies.out x y e there some in (r.0, r.1, before_copies x e r.0 there (some_is_other e.other y some) r.2));
-          back = sound.copies.back;
-          shells = sound.copies.shells;
-          marked_only = sound.copies.marked_only;
-          old_references = sound.copies.old_references;
-          new_references = sound.copies.new_references;
-          room = λ posted_phase. elim posted_phase [ inl wrong ↦ absurd cc | inr wrong ↦ absurd cc ];
-        };
-        cursor = before_offset most;
-        loaded = λ posted_phase. loaded;
-        marks = λ posted_phase. absurd cc;
-        cleared = λ posted_phase. absurd cc;
-      }
+      before_sound not_stored most loaded =
+          IsSoundHeap-on tree Copy Copy has_round has_round words p q m sound refl refl refl (λ e. absurd cc) was_in sound.copies.shells sound.copies.old_references
+          (λ e. absurd cc) (before_offset most) (λ e. loaded) (λ e. absurd cc)
         where
-          before_copies : (x : Addr) (e d : Cell) → cell_in m.old x ≡ Some e → e.other ≢ None → AreCopies tree Copy p m x e d → AreCopies tree Copy q m x e d
-          before_copies x e d there some h = record {
-            kind = h.kind;
-            count = h.count;
-            back = h.back;
-            words = λ word is. h.words word (elim is [ inl done ↦ inl (before_copied x e word there some done) | inr stored ↦ elim (not_stored stored.stored) [ ] ]);
-          }
+          was_in : (x : Addr) (e : Cell) (word : ℕ) → cell_in m.old x ≡ Some e → e.other ≢ None → word ≤ length e.slots → IsInCopy Copy q m x e word → IsInCopy Copy p m x e word
+          was_in x e word there some short (inl done) = inl (before_copied x e word there some done)
+          was_in x e word there some short (inr stored) = elim (not_stored stored.stored) [ ]
 
     -- the word is loaded
     loaded_sound : p.attempt.failed_checks < MOST_FAILED_CHECKS → IsSoundHeap tree Copy has_round words (before_word p m.old a (with_loaded c k p.attempt)) m
@@ -324,17 +310,8 @@ module _ (tree : Tree) (has_round : Bool) (words : ℕ) (p : Progress) (m : Spac
 
       filled_blocks : AreBlocks Copy words after
       filled_blocks =
-          let same = change-new_alone f m sound.blocks.spaces b to.0 to.1 in
-          record {
-            few = sound.blocks.few;
-            spaces = subst AreSpaces same (AreSpaces-change f keeps m b sound.blocks.spaces);
-            held = sound.blocks.held;
-            old_words = sound.blocks.old_words;
-            new_words = sound.blocks.new_words;
-            grows = sound.blocks.grows;
-            none_new = λ early. absurd cc;
-            none_grey = λ over. absurd cc;
-          }
+          AreBlocks-kept Copy Copy words m after sound.blocks refl (subst AreSpaces (change-new_alone f m sound.blocks.spaces b to.0 to.1) (AreSpaces-change f keeps m b sound.blocks.spaces)) refl refl refl
+          (λ early. absurd cc) (λ over. absurd cc)
 
       after_sound : IsSoundHeap tree Copy has_round words stored_at after
       after_sound = record {
@@ -429,29 +406,11 @@ module _ (tree : Tree) (has_round : Bool) (words : ℕ) (p : Progress) (m : Spac
         was_in x e word there some short (inl done) = elim (before t test x e word there some short done) [ inl was ↦ inl was | inr now ↦ word_is_in x e word there now.0 now.1 ]
         was_in x e word there some short (inr h) = (let wrong : Begins ≡ Stored = sym (next_stage t) ∙ h.stored in absurd cc)
 
-        passed_copies : (x y : Addr) (e d : Cell) → cell_in m.old x ≡ Some e → e.other ≡ Some y → AreCopies tree Copy p m x e d → AreCopies tree Copy (next t) m x e d
-        passed_copies x y e d there some h =
-            are_copies tree Copy (next t) m x e d h.kind h.count h.back (λ word short is. h.words word (was_in x e word there (some_is_other e.other y some) short is))
-
         passed_by : IsSoundHeap tree Copy has_round words (next t) m
-        passed_by = record {
-          blocks = sound.blocks;
-          copies = record {
-            no_copy = λ x d there early. absurd cc;
-            unmarked = λ x d there over. absurd cc;
-            out = λ x y e there some. (let r = sound.copies.out x y e there some in (r.0, r.1, passed_copies x y e r.0 there some r.2));
-            back = sound.copies.back;
-            shells = sound.copies.shells;
-            marked_only = sound.copies.marked_only;
-            old_references = sound.copies.old_references;
-            new_references = sound.copies.new_references;
-            room = λ posted_phase. elim posted_phase [ inl wrong ↦ absurd cc | inr wrong ↦ absurd cc ];
-          };
-          cursor = record { offset = λ posted_phase. next_offset t; attempts = λ posted_phase. next_spent t; words = λ posted_phase. next_words t test };
-          loaded = λ posted_phase is. (let wrong : Begins ≡ Loaded = sym (next_stage t) ∙ is in absurd cc);
-          marks = λ posted_phase. absurd cc;
-          cleared = λ posted_phase. absurd cc;
-        }
+        passed_by =
+            IsSoundHeap-on tree Copy Copy has_round has_round words p (next t) m sound refl refl refl (λ e. absurd cc) was_in sound.copies.shells sound.copies.old_references (λ e. absurd cc)
+            (record { offset = λ posted_phase. next_offset t; attempts = λ posted_phase. next_spent t; words = λ posted_phase. next_words t test })
+            (λ posted_phase is. (let wrong : Begins ≡ Loaded = sym (next_stage t) ∙ is in absurd cc)) (λ e. absurd cc)
 
       passed_sound : IsSoundHeap tree Copy has_round words (after_word p m.old a c k) m
       passed_sound = passed_by (nat_lt k (length c.slots)) refl
@@ -464,28 +423,13 @@ found_other s p at is = let b = some_there is.cell.other is.holds in (is.cell, b
 
 -- fewer failed checks leave the heap sound
 unfailed : (tree : Tree) (has_round : Bool) (words : ℕ) (p : Progress) (m : Spaces) → IsSoundHeap tree Copy has_round words p m → IsSoundHeap tree Copy has_round words (record p { attempt = record p.attempt { failed_checks = 0 } }) m
-unfailed tree has_round words p m sound = record {
-  blocks = sound.blocks;
-  copies = record {
-    no_copy = λ x d there early. absurd cc;
-    unmarked = λ x d there over. absurd cc;
-    out = λ x y e there some. (let r = sound.copies.out x y e there some in (r.0, r.1, record { kind = r.2.kind; count = r.2.count; back = r.2.back; words = λ word is. r.2.words word (was_in x e word is) }));
-    back = sound.copies.back;
-    shells = sound.copies.shells;
-    marked_only = sound.copies.marked_only;
-    old_references = sound.copies.old_references;
-    new_references = sound.copies.new_references;
-    room = λ posted_phase. elim posted_phase [ inl wrong ↦ absurd cc | inr wrong ↦ absurd cc ];
-  };
-  cursor = record {
-    offset = sound.cursor.offset;
-    attempts = λ posted_phase. (let most = sound.cursor.attempts refl in omega (arith, most));
-    words = λ posted_phase some. sound.cursor.words refl (λ none. some (omega (arith, none)));
-  };
-  loaded = sound.loaded;
-  marks = λ posted_phase. absurd cc;
-  cleared = λ posted_phase. absurd cc;
-}
+unfailed tree has_round words p m sound =
+    IsSoundHeap-on tree Copy Copy has_round has_round words p q m sound refl refl refl (λ e. absurd cc) was_in sound.copies.shells sound.copies.old_references (λ e. absurd cc)
+    (record {
+      offset = sound.cursor.offset;
+      attempts = λ posted_phase. (let most = sound.cursor.attempts refl in omega (arith, most));
+      words = λ posted_phase some. sound.cursor.words refl (λ none. some (omega (arith, none)));
+    }) (λ e. sound.loaded refl) (λ e. absurd cc)
   where
     q : Progress
     q = record p { attempt = record p.attempt { failed_checks = 0 } }
@@ -494,9 +438,9 @@ unfailed tree has_round words p m sound = record {
     same_loaded e zero same = same
     same_loaded e (suc slot) same = same
 
-    was_in : (x : Addr) (e : Cell) (word : ℕ) → IsInCopy Copy q m x e word → IsInCopy Copy p m x e word
-    was_in x e word (inl done) = inl done
-    was_in x e word (inr h) = inr (record { copying = h.copying; here = h.here; next = h.next; stored = h.stored; same = same_loaded e word h.same })
+    was_in : (x : Addr) (e : Cell) (word : ℕ) → cell_in m.old x ≡ Some e → e.other ≢ None → word ≤ length e.slots → IsInCopy Copy q m x e word → IsInCopy Copy p m x e word
+    was_in x e word there some short (inl done) = inl done
+    was_in x e word there some short (inr h) = inr (record { copying = h.copying; here = h.here; next = h.next; stored = h.stored; same = same_loaded e word h.same })
 
 module _ (tree : Tree) (has_round : Bool) (words : ℕ) (p : Progress) (m : Spaces) (sound : IsSoundHeap tree Copy has_round words p m) (at : ℕ) (found : found_in has_other m.old (m.old.start + p.cursor) ≡ Some at)
     (c : Cell) (lies : cell_in m.old (record { number = at }) ≡ Some c) (b : Addr) (other : c.other ≡ Some b) where
@@ -638,7 +582,7 @@ module _ (tree : Tree) (has_round : Bool) (words : ℕ) (p : Progress) (o : Obje
 
   -- what is live while Copy is posted is so while PreFlip is
   pub pre_flip_live : (x : Addr) → is_live Copy o.spaces x ≡ true → is_live PreFlip o.spaces x ≡ true
-  pre_flip_live x h = permanent_or x (is_marked_old o.spaces x) (is_marked_old o.spaces x || is_new o.spaces x) (or_left (is_marked_old o.spaces x) (is_new o.spaces x)) h
+  pre_flip_live x h = or_more (is_permanent x) (is_marked_old o.spaces x) (is_marked_old o.spaces x || is_new o.spaces x) (or_left (is_marked_old o.spaces x) (is_new o.spaces x)) h
 
   module _ (over : (next_copy_step tree p o).2 ≡ false) where
     none_left : found_in has_other o.spaces.old (o.spaces.old.start + p.cursor) ≡ None
@@ -652,46 +596,13 @@ module _ (tree : Tree) (has_round : Bool) (words : ℕ) (p : Progress) (o : Obje
         by_test true test = grind (arith, nat_tests)
         by_test false test =
             let following : o.spaces.old.start + p.cursor ≤ x.number = grind (arith, nat_tests) in
-            let wrong : true ≡ false = sym (has_some e some) ∙ found_none has_other o.spaces.old (o.spaces.old.start + p.cursor) none_left x e there following in
+            let wrong : true ≡ false = sym (has_some e some) ∙ none_found has_other o.spaces.old (o.spaces.old.start + p.cursor) none_left x e there following in
             absurd cc
-
-    whole : (x y : Addr) (e d : Cell) → cell_in o.spaces.old x ≡ Some e → e.other ≡ Some y → AreCopies tree Copy p o.spaces x e d → AreCopies tree PreFlip no_progress o.spaces x e d
-    whole x y e d there some h = record {
-      kind = h.kind;
-      count = h.count;
-      back = λ posted_phase. h.back (inl (λ wrong. absurd cc));
-      words = λ word is. h.words word (inl (inl before));
-    }
-      where
-        before : x.number < o.spaces.old.start + p.cursor
-        before = all_before x e there (some_is_other e.other y some)
 
     -- where no step of Copy is left, PreFlip can be posted
     pub pre_flip_posted : IsSoundHeap tree PreFlip has_round words no_progress o.spaces
-    pre_flip_posted = record {
-      blocks = record {
-        few = sound.blocks.few;
-        spaces = sound.blocks.spaces;
-        held = sound.blocks.held;
-        old_words = sound.blocks.old_words;
-        new_words = sound.blocks.new_words;
-        grows = sound.blocks.grows;
-        none_new = λ early. absurd cc;
-        none_grey = λ closed. absurd cc;
-      };
-      copies = record {
-        no_copy = λ x d at early. absurd cc;
-        unmarked = λ x d at closed. absurd cc;
-        out = λ x y e there some. (let r = sound.copies.out x y e there some in (r.0, r.1, whole x y e r.0 there some r.2));
-        back = sound.copies.back;
-        shells = λ x e there dark looked. sound.copies.shells x e there dark tt;
-        marked_only = sound.copies.marked_only;
-        old_references = λ x e there dark. slots_weaken tree (is_live Copy o.spaces) (is_live PreFlip o.spaces) pre_flip_live e (sound.copies.old_references x e there dark);
-        new_references = sound.copies.new_references;
-        room = λ posted_phase. elim posted_phase [ inl wrong ↦ absurd cc | inr wrong ↦ absurd cc ];
-      };
-      cursor = HasCursor-begun PreFlip o.spaces;
-      loaded = λ posted_phase. absurd cc;
-      marks = λ posted_phase. absurd cc;
-      cleared = λ posted_phase. absurd cc;
-    }
+    pre_flip_posted =
+        IsSoundHeap-on tree Copy PreFlip has_round has_round words p no_progress o.spaces sound refl refl refl (λ e. absurd cc)
+        (λ x e word there some short is. inl (inl (all_before x e there some))) sound.copies.shells
+        (λ x e there dark. slots_weaken tree (is_live Copy o.spaces) (is_live PreFlip o.spaces) pre_flip_live e (sound.copies.old_references x e there dark))
+        (λ e. absurd cc) (HasCursor-begun PreFlip o.spaces) (λ e. absurd cc) (λ e. absurd cc)

@@ -17,10 +17,11 @@ use Rattle.collector.specs.Soundness.{IsSoundHeap}
 use Rattle.collector.specs.CopySteps.{address_after_cell, next_copy_step, next_shell_step}
 use Rattle.collector.specs.declared.progress.Attempt.{Attempt}
 use Rattle.collector.specs.declared.progress.Progress.{Progress}
-use Rattle.collector.proofs.Copies.CopyTests.{marks_same, same_address}
 use Rattle.collector.proofs.Copies.CopiedWords.{filled, filled_size}
 use Rattle.collector.proofs.Copies.AllocateWork.{looked_cases}
 use Rattle.collector.proofs.Copies.CopyWork.{IsStep, copied_cases, none_stored, one_stored}
+use Rattle.collector.proofs.Addresses.Tests.{same_address}
+use Rattle.collector.proofs.Addresses.TagChanges.{read_alike}
 
 -- an object shows what it showed, and may have got another copy
 pub record IsStill (c d : Cell) : Type 0 where
@@ -112,7 +113,7 @@ module _ (p : Progress) (o : Objects) where
     | inl same ↦ ap (λ (z : Objects). is_marked_old z.spaces x) same
     | inr h ↦
         ap (λ (z : Objects). is_marked_old z.spaces x) h.4
-        ∙ marks_same (set_other (next_address o.spaces.new)) (λ z. refl) (λ z. refl) o.spaces.old (address_after_cell o.spaces.old p.cursor) x
+        ∙ read_alike is_marked_cell (set_other (next_address o.spaces.new)) (λ z. refl) (λ z. refl) o.spaces.old (address_after_cell o.spaces.old p.cursor) x
   ])
 
   module _ (tree : Tree) (has_round : Bool) (words : ℕ) (sound : IsSoundHeap tree Allocate has_round words p o.spaces) where

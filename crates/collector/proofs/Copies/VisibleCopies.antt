@@ -6,7 +6,7 @@ use Rattle.std.proofs.lemmas.Bool.{or_cases, or_left, or_right}
 use Rattle.std.proofs.lemmas.Nat.{mod_below}
 use Rattle.std.proofs.lemmas.Option.{same_Some, slice_get-get_or, slice_get_within}
 use Rattle.cil_model.specs.declared.phases.Phase.{Phase}
-use Rattle.cil_model.specs.declared.phases.Phase.TheVariants.{Idle, Mark, Allocate, Copy, PreFlip, HeapFlip, ThreadFlip, Reclaim}
+use Rattle.cil_model.specs.declared.phases.Phase.TheVariants.{PreFlip, HeapFlip, ThreadFlip, Reclaim}
 use Rattle.cil_model.specs.PhaseOrder.{is_between}
 use Rattle.cil_model.specs.declared.trees.Tree.{Tree}
 use Rattle.object_memory.specs.declared.addresses.Addr.{Addr}
@@ -14,12 +14,18 @@ use Rattle.object_memory.specs.declared.addresses.TheConstants.{ADDRESSES}
 use Rattle.object_memory.specs.Cells.{Cell, cell_in}
 use Rattle.object_memory.specs.Spaces.{Spaces, AreSpaces, forward, forward_word}
 use Rattle.object_memory.proofs.TwoSpaces.TwoBlocks.{forward_bare, forward_copy, forward_else, forward_new, new_is_cell, are_distinct}
-use Rattle.collector.specs.References.{is_permanent, reference_in}
-use Rattle.collector.specs.Phases.{HasCopied, HasLooked, is_live, is_live_object, is_marked_old, is_new, is_new_address}
+use Rattle.collector.specs.References.{is_permanent, reference_in, ValuePasses}
+use Rattle.collector.specs.Phases.{HasCopied, is_live, is_live_object, is_marked_old, is_new, is_new_address}
 use Rattle.collector.specs.Soundness.{AreCopies, AreCopied, IsCopiedSlot, copied_word}
 use Rattle.collector.specs.declared.progress.Progress.{Progress}
 pub use Rattle.collector.proofs.Addresses.LiveForwards.{has_copies}
-use Rattle.collector.proofs.Copies.CopyTests.{marked_there, other_there, permanent_no_cell, some_there}
+use Rattle.collector.proofs.Copies.CopyTests.{other_there}
+use Rattle.collector.proofs.Addresses.LiveForwards.{live_marked_or_new, looked_at_all}
+use Rattle.collector.proofs.Addresses.Tests.{marked_there, permanent_not_old, some_there}
+use Rattle.object_memory.specs.declared.values.Value.{Value}
+use Rattle.object_memory.specs.declared.values.Value.TheVariants.{Ref}
+use Rattle.object_memory.specs.Objects.{Objects}
+use Rattle.barriers.specs.Barriers.{forward_value}
 
 -- ---- phases
 
@@ -34,12 +40,6 @@ pub record ShowSame (tree : Tree) (m : Spaces) (c d : Cell) : Type 0 where
   pub count : length d.slots ≡ length c.slots
   pub slots : (slot : ℕ) → IsCopiedSlot tree m c d slot
 
-looked_by : (posted_phase : Phase) (p : Progress) (m : Spaces) (a : Addr) → has_copies posted_phase ≡ true → HasLooked posted_phase p m a
-looked_by Idle p m a e = absurd cc
-looked_by Mark p m a e = absurd cc
-looked_by Allocate p m a e = absurd cc
-looked_by _ p m a e = tt
-
 copied_by : (posted_phase : Phase) (p : Progress) (m : Spaces) (a : Addr) (word : ℕ) → has_words posted_phase ≡ true → HasCopied posted_phase p m a word
 copied_by PreFlip p m a word e = tt
 copied_by HeapFlip p m a word e = tt
@@ -49,15 +49,6 @@ copied_by _ p m a word e = absurd cc
 not_reclaim : (posted_phase : Phase) → has_words posted_phase ≡ true → posted_phase ≢ Reclaim
 not_reclaim posted_phase e is = let wrong : has_words Reclaim ≡ true = sym (ap has_words is) ∙ e in absurd cc
 
--- what is live from Copy on is marked or new
-live_by : (posted_phase : Phase) (m : Spaces) (a : Addr) → has_copies posted_phase ≡ true → is_live_object posted_phase m a ≡ true → (is_marked_old m a ≡ true) ⊎ (is_new m a ≡ true)
-live_by Copy m a e h = inl h
-live_by PreFlip m a e h = or_cases (is_marked_old m a) (is_new m a) h
-live_by HeapFlip m a e h = or_cases (is_marked_old m a) (is_new m a) h
-live_by ThreadFlip m a e h = or_cases (is_marked_old m a) (is_new m a) h
-live_by Reclaim m a e h = inr h
-live_by _ m a e h = absurd cc
-
 module _ (tree : Tree) (posted_phase : Phase) (p : Progress) (m : Spaces) (spaces : AreSpaces m) (copies : AreCopied tree posted_phase p m) where
   -- ---- forwards
 
@@ -65,7 +56,7 @@ module _ (tree : Tree) (posted_phase : Phase) (p : Progress) (m : Spaces) (space
   pub copy_of : has_copies posted_phase ≡ true → (a : Addr) (c : Cell) → cell_in m.old a ≡ Some c → c.marked ≡ true
       → (b : Addr) × (d : Cell) × (c.other ≡ Some b) × (cell_in m.new b ≡ Some d) × AreCopies tree posted_phase p m a c d
   copy_of late a c lies marked =
-      let b = other_there c.other (copies.shells a c lies marked (looked_by posted_phase p m a late)) in
+      let b = other_there c.other (copies.shells a c lies marked (looked_at_all posted_phase p m a late)) in
       let r = copies.out a b.0 c lies b.1 in
       (b.0, r.0, b.1, r.1, r.2)
 
@@ -93,11 +84,11 @@ module _ (tree : Tree) (posted_phase : Phase) (p : Progress) (m : Spaces) (space
 
       by_kind : (is_permanent a ≡ true) ⊎ (is_live_object posted_phase m a ≡ true) → is_new_address m (forward m a) ≡ true
       by_kind (inl permanent) =
-          subst (λ x. is_new_address m x ≡ true) (sym (forward_else m a (permanent_no_cell m spaces a permanent))) (or_left (is_permanent a) (is_new m a) permanent)
-      by_kind (inr object) = by_object (live_by posted_phase m a late object)
+          subst (λ x. is_new_address m x ≡ true) (sym (forward_else m a (permanent_not_old m spaces a permanent))) (or_left (is_permanent a) (is_new m a) permanent)
+      by_kind (inr object) = by_object (live_marked_or_new posted_phase m a late object)
 
   -- a forward is an address that a word can hold
-  forward_short : (a : Addr) → a.number < ADDRESSES → (forward m a).number < ADDRESSES
+  pub forward_short : (a : Addr) → a.number < ADDRESSES → (forward m a).number < ADDRESSES
   forward_short a short = by_cell (cell_in m.old a) refl
     where
       by_other : (c : Cell) (o : Option Addr) → cell_in m.old a ≡ Some c → c.other ≡ o → (forward m a).number < ADDRESSES
@@ -136,6 +127,12 @@ module _ (tree : Tree) (posted_phase : Phase) (p : Progress) (m : Spaces) (space
     old_shows a b c lies other =
         let r = copies.out a b c lies other in
         (r.0, r.1, r.2.back (inl (not_reclaim posted_phase late)), show a c r.0 r.2)
+
+-- the forward of a value that is live is new
+pub forwarded_is_new : (tree : Tree) (posted_phase : Phase) (p : Progress) (o : Objects) → AreSpaces o.spaces → AreCopied tree posted_phase p o.spaces → has_copies posted_phase ≡ true → (v : Value)
+    → ValuePasses (is_live posted_phase o.spaces) v → ValuePasses (is_new_address o.spaces) (forward_value o v)
+forwarded_is_new tree posted_phase p o spaces copies late (Ref a) live = forward_is_new tree posted_phase p o.spaces spaces copies late a live
+forwarded_is_new tree posted_phase p o spaces copies late _ live = tt
 
 -- each word of a new copy is copied from that of the old one
 pub word_shown : (tree : Tree) (m : Spaces) (c d : Cell) → ShowSame tree m c d → (slot word : ℕ) → slice_get d.slots slot ≡ Some word

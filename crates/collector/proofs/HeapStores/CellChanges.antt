@@ -19,8 +19,9 @@ use Rattle.collector.specs.Holds.{HasNotBegun}
 use Rattle.collector.specs.declared.progress.Progress.{Progress}
 use Rattle.collector.proofs.BlockWalks.ChangedBlocks.{IsOffset-change}
 use Rattle.collector.proofs.BlockWalks.CollectorOffsets.{HasCursor-change}
-use Rattle.collector.proofs.Addresses.Disjunctions.{false_is_true}
 use Rattle.collector.proofs.Addresses.TagChanges.{AreAlike, KeepsTags, changed_is, keeps_size, live_stays, marked_address_stays, new_address_stays, only_at, only_keeps_tags, same_address, twice, twice_alike}
+use Rattle.cil_model.proofs.SameLaws.{never}
+use Rattle.collector.proofs.PhaseChanges.LaterPhases.{AreBlocks-kept}
 
 -- ---- slots
 
@@ -62,16 +63,16 @@ module _ (tree : Tree) (posted_phase : Phase) (has_round : Bool) (words : ℕ) (
   mapped_back h (Some c) d e = (c, refl, same_Some (h c) d e)
 
   pub old_before : (x : Addr) (d : Cell) → cell_in n.old x ≡ Some d → (c : Cell) × (cell_in m.old x ≡ Some c) × (F x c ≡ d)
-  old_before x d is = mapped_back (F x) (cell_in m.old x) d (sym (changed_is f keeps m.old a x) ∙ is)
+  old_before x d is = mapped_back (F x) (cell_in m.old x) d (sym (changed_is f (keeps_size f keeps) m.old a x) ∙ is)
 
   pub new_before : (x : Addr) (d : Cell) → cell_in n.new x ≡ Some d → (c : Cell) × (cell_in m.new x ≡ Some c) × (G x c ≡ d)
-  new_before x d is = mapped_back (G x) (cell_in m.new x) d (sym (changed_is g keeps' m.new b x) ∙ is)
+  new_before x d is = mapped_back (G x) (cell_in m.new x) d (sym (changed_is g (keeps_size g keeps') m.new b x) ∙ is)
 
   pub old_after : (x : Addr) (c : Cell) → cell_in m.old x ≡ Some c → cell_in n.old x ≡ Some (F x c)
-  old_after x c is = changed_is f keeps m.old a x ∙ ap (option_map (F x)) is
+  old_after x c is = changed_is f (keeps_size f keeps) m.old a x ∙ ap (option_map (F x)) is
 
   pub new_after : (x : Addr) (c : Cell) → cell_in m.new x ≡ Some c → cell_in n.new x ≡ Some (G x c)
-  new_after x c is = changed_is g keeps' m.new b x ∙ ap (option_map (G x)) is
+  new_after x c is = changed_is g (keeps_size g keeps') m.new b x ∙ ap (option_map (G x)) is
 
   other_was : (x : Addr) (c d : Cell) → F x c ≡ d → d.other ≡ c.other
   other_was x c d is = ap (λ (y : Cell). y.other) (sym is) ∙ (old_tags x).other c
@@ -111,20 +112,14 @@ module _ (tree : Tree) (posted_phase : Phase) (has_round : Bool) (words : ℕ) (
 
   module _ (sound : IsSoundHeap tree posted_phase has_round words p m) (fits : StoresFit) where
     blocks : AreBlocks posted_phase words n
-    blocks = record {
-      few = sound.blocks.few;
-      spaces = record {
-        old = change-is_space f (keeps_size f keeps) m a m.old sound.blocks.spaces.old;
-        new = change-is_space g (keeps_size g keeps') m b m.new sound.blocks.spaces.new;
-        apart = sound.blocks.spaces.apart;
-      };
-      held = sound.blocks.held;
-      old_words = sound.blocks.old_words;
-      new_words = sound.blocks.new_words;
-      grows = sound.blocks.grows;
-      none_new = λ early. ap (λ (cs : List Cell). change_from g m.new.start cs b.number) (sound.blocks.none_new early);
-      none_grey = sound.blocks.none_grey;
-    }
+    blocks =
+        AreBlocks-kept posted_phase posted_phase words m n sound.blocks refl
+        (record {
+          old = change-is_space f (keeps_size f keeps) m a m.old sound.blocks.spaces.old;
+          new = change-is_space g (keeps_size g keeps') m b m.new sound.blocks.spaces.new;
+          apart = sound.blocks.spaces.apart;
+        })
+        refl refl refl (λ early. ap (λ (cs : List Cell). change_from g m.new.start cs b.number) (sound.blocks.none_new early)) sound.blocks.none_grey
 
     -- the words of one cell
 
@@ -243,7 +238,7 @@ module _ (tree : Tree) (posted_phase : Phase) (has_round : Bool) (words : ℕ) (
             inl (late.all_grey is_mark x (ap is_marked_cell o.1 ∙ sym (marked_was x o.0 c o.2) ∙ marked));
         fresh = marks.fresh;
         oldest = λ x rest c is lies slot word scanned. let none : p.scanned_slots ≡ 0 = ap (λ (q : Progress). q.scanned_slots) late.nothing in absurd (omega (arith, none, scanned));
-        closed = λ round. false_is_true (sym (late.no_round is_mark) ∙ round);
+        closed = λ round. never (sym (late.no_round is_mark) ∙ round);
       }
 
       -- where only references of marked objects are stored

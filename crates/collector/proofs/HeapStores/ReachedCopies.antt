@@ -25,11 +25,13 @@ use Rattle.collector.specs.Soundness.{AreCopies, HasStored, IsInCopy, IsSoundHea
 use Rattle.collector.specs.Holds.{HasNotBegun, IsOnTime}
 use Rattle.collector.specs.declared.progress.Progress.{Progress}
 use Rattle.collector.specs.declared.progress.Stage.TheVariants.{Begins, Stored}
-use Rattle.collector.proofs.Addresses.Disjunctions.{false_is_true}
 use Rattle.collector.proofs.Addresses.TagChanges.{KeepsTags, keeps_size, only_at, only_keeps_tags, other_address, same_address, twice}
 use Rattle.collector.proofs.HeapStores.CellChanges.{AreStored, heap_stays}
 use Rattle.collector.proofs.Copies.AgreeingCopies.{copies_by}
-use Rattle.collector.proofs.Addresses.LiveForwards.{has_copies, is_old_alone, live_cell, live_is_old, live_marked_or_new, marked_copy, old_not_new, reclaim_or}
+use Rattle.collector.proofs.Addresses.LiveForwards.{has_copies, is_old_alone, live_is_old, live_marked_or_new, reclaim_or}
+use Rattle.cil_model.proofs.SameLaws.{never}
+use Rattle.collector.proofs.Copies.VisibleCopies.{copy_of}
+use Rattle.collector.proofs.Addresses.Tests.{live_object, old_not_new}
 
 -- ---- threads beside the collector
 
@@ -53,17 +55,17 @@ pub data Way (own posted_phase : Phase) (p : Progress) : Type 0 where
   in_both : reaches_both own ≡ true → has_copies posted_phase ≡ true → Way own posted_phase p
 
 way_now : (own : Phase) (p : Progress) → Way own own p
-way_now Idle p = in_old refl refl (λ e. false_is_true e)
-way_now Mark p = in_old refl refl (λ e. false_is_true e)
-way_now Allocate p = in_old refl refl (λ e. false_is_true e)
+way_now Idle p = in_old refl refl (λ e. never e)
+way_now Mark p = in_old refl refl (λ e. never e)
+way_now Allocate p = in_old refl refl (λ e. never e)
 way_now Reclaim p = in_new refl refl
 way_now _ p = in_both refl refl
 
 way_late : (own : Phase) (p : Progress) → p ≡ no_progress → Way own (phase_after own) p
-way_late Idle p nothing = in_old refl refl (λ e. false_is_true e)
-way_late Mark p nothing = in_old refl refl (λ e. false_is_true e)
+way_late Idle p nothing = in_old refl refl (λ e. never e)
+way_late Mark p nothing = in_old refl refl (λ e. never e)
 way_late Allocate p nothing = in_old refl refl (λ e. nothing)
-way_late Reclaim p nothing = in_old refl refl (λ e. false_is_true e)
+way_late Reclaim p nothing = in_old refl refl (λ e. never e)
 way_late _ p nothing = in_both refl refl
 
 -- phases alternate between even and odd
@@ -76,11 +78,11 @@ phase_parity _ = true
 
 -- no phase is the one before it
 pub not_after : (own : Phase) → own ≢ phase_after own
-not_after Mark e = false_is_true (ap phase_parity e)
-not_after Copy e = false_is_true (ap phase_parity e)
-not_after HeapFlip e = false_is_true (ap phase_parity e)
-not_after Reclaim e = false_is_true (ap phase_parity e)
-not_after _ e = false_is_true (sym (ap phase_parity e))
+not_after Mark e = never (ap phase_parity e)
+not_after Copy e = never (ap phase_parity e)
+not_after HeapFlip e = never (ap phase_parity e)
+not_after Reclaim e = never (ap phase_parity e)
+not_after _ e = never (sym (ap phase_parity e))
 
 -- each thread beside the collector has its way
 pub way_of : (own posted_phase : Phase) (has_round : Bool) (p : Progress) (m : Spaces) → IsBeside own posted_phase → IsOnTime own posted_phase has_round p m → Way own posted_phase p
@@ -107,7 +109,7 @@ none_done Copy p m alone nothing x c lies word done =
       | inl before ↦ absurd (omega (arith, offset, before, (range_in m.old x c lies).0))
       | inr here ↦ absurd (omega (arith, copied, here.1))
     ]
-none_done _ p m alone nothing x c lies word done = false_is_true alone
+none_done _ p m alone nothing x c lies word done = never alone
 
 -- nor is one stored
 none_stored : (posted_phase : Phase) (p : Progress) (m : Spaces) → (is_copy posted_phase ≡ true → p ≡ no_progress) → (x : Addr) (from : Cell) (word : ℕ) → HasStored posted_phase p m x from word → ⊥
@@ -215,7 +217,7 @@ module _ (tree : Tree) (posted_phase : Phase) (has_round : Bool) (words : ℕ) (
   module _ (f g : Cell → Cell) (kind : Kind) (right : IsRight tree posted_phase has_round p m kind true f g) (copied : has_copies posted_phase ≡ true) where
     -- Mark isn't posted once there are copies
     not_mark : {A : Type 0} → posted_phase ≡ Mark → A
-    not_mark e = false_is_true (sym (ap has_copies e) ∙ copied)
+    not_mark e = never (sym (ap has_copies e) ∙ copied)
 
     module _ (a b : Addr) (c d : Cell) (twins : AreTwins m a b c d) (decoded : c.kind ≡ kind) (decoded' : d.kind ≡ kind) where
       by_tests : posted_phase ≢ Reclaim → (x y : Addr) (u v : Cell) → cell_in m.old x ≡ Some u → u.other ≡ Some y → cell_in m.new y ≡ Some v → AreCopies tree posted_phase p m x u v → (s t : Bool) → (a.number == x.number) ≡ s → (b.number == y.number) ≡ t
@@ -249,16 +251,16 @@ module _ (tree : Tree) (posted_phase : Phase) (has_round : Bool) (words : ℕ) (
     -- the two copies of a live object, through the address of either
     module _ (a : Addr) (c : Cell) (decoded : c.kind ≡ kind) (live : is_live posted_phase m a ≡ true) where
       through_old_stays : cell_in m.old a ≡ Some c → IsSoundWith (with_both f g o a).spaces
-      through_old_stays lies = elim (live_marked_or_new posted_phase m a copied (live_cell tree posted_phase has_round words p m sound a c (old_is_cell m a c lies) live)) [
-        | inl marked ↦ with_copy (marked_copy tree posted_phase has_round words p m sound copied a c lies (sym (ap is_marked_cell lies) ∙ marked))
-        | inr new ↦ false_is_true (sym (old_not_new m spaces a c lies) ∙ new)
+      through_old_stays lies = elim (live_marked_or_new posted_phase m a copied (live_object m spaces a c posted_phase (old_is_cell m a c lies) live)) [
+        | inl marked ↦ with_copy (copy_of tree posted_phase p m spaces sound.copies copied a c lies (sym (ap is_marked_cell lies) ∙ marked))
+        | inr new ↦ never (sym (old_not_new m spaces a c lies) ∙ new)
       ]
         where
           with_copy : (b : Addr) × (d : Cell) × (c.other ≡ Some b) × (cell_in m.new b ≡ Some d) × AreCopies tree posted_phase p m a c d → IsSoundWith (with_both f g o a).spaces
           with_copy (b, d, out, new, were) =
               let decoded' : d.kind ≡ kind = were.kind ∙ decoded in
               elim (reclaim_or posted_phase) [
-                | inl last ↦ false_is_true (sym (old_not_new m spaces a c lies) ∙ subst (λ q. is_live_object q m a ≡ true) last (live_cell tree posted_phase has_round words p m sound a c (old_is_cell m a c lies) live))
+                | inl last ↦ never (sym (old_not_new m spaces a c lies) ∙ subst (λ q. is_live_object q m a ≡ true) last (live_object m spaces a c posted_phase (old_is_cell m a c lies) live))
                 | inr before ↦
                     let twins : AreTwins m a b c d = record { old = lies; new = new; out = out; back = were.back (inl before) } in
                     subst (λ (q : Objects). IsSoundWith q.spaces) (sym (through_old f g (keeps_size f right.keeps_old) (keeps_size g right.keeps_new) o spaces a b c d twins)) (twins_stay a b c d twins decoded decoded')
@@ -290,17 +292,17 @@ module _ (tree : Tree) (posted_phase : Phase) (has_round : Bool) (words : ℕ) (
 
   module _ (f g : Cell → Cell) (own : Phase) (a : Addr) (c : Cell) (lies : object_cell o a ≡ Some c) (live : is_live posted_phase m a ≡ true) (right : IsRight tree posted_phase has_round p m c.kind (reaches_both own) f g) where
     object : is_live_object posted_phase m a ≡ true
-    object = live_cell tree posted_phase has_round words p m sound a c lies live
+    object = live_object m spaces a c posted_phase lies live
 
     lies_old : is_old_alone posted_phase ≡ true → cell_in m.old a ≡ Some c
     lies_old alone = elim (either m a c lies) [
       | inl old ↦ old
-      | inr new ↦ false_is_true (sym (ap is_some (not_old m spaces a c new)) ∙ live_is_old posted_phase m a alone object)
+      | inr new ↦ never (sym (ap is_some (not_old m spaces a c new)) ∙ live_is_old posted_phase m a alone object)
     ]
 
     lies_new : posted_phase ≡ Reclaim → cell_in m.new a ≡ Some c
     lies_new last = elim (either m a c lies) [
-      | inl old ↦ false_is_true (sym (old_not_new m spaces a c old) ∙ subst (λ q. is_live_object q m a ≡ true) last object)
+      | inl old ↦ never (sym (old_not_new m spaces a c old) ∙ subst (λ q. is_live_object q m a ≡ true) last object)
       | inr new ↦ new
     ]
 

@@ -13,11 +13,14 @@ use Rattle.collector.specs.References.{ValuePasses}
 use Rattle.collector.specs.Phases.{is_live, is_new_address}
 use Rattle.collector.specs.Holds.{AnyLive, MarkedOnly, NewOnly, passes, static_may_hold}
 use Rattle.collector.specs.declared.progress.Progress.{Progress}
-use Rattle.collector.proofs.Addresses.LiveForwards.{has_copies, is_old_alone, new_is_live}
+use Rattle.collector.proofs.Addresses.LiveForwards.{has_copies}
 use Rattle.collector.proofs.HeapStores.ReachedCopies.{IsBeside, not_after}
-use Rattle.collector.proofs.Marks.MarksOfStores.{live_grows, value_mark_grows, value_then_marked, value_weakens}
+use Rattle.collector.proofs.Marks.MarksOfStores.{live_grows, value_mark_grows}
 use Rattle.collector.proofs.ThreadReferences.LiveValues.{held_by}
-use Rattle.collector.proofs.HeapStores.StoreSoundness.{IsBesideHeap, forwarded_passes}
+use Rattle.collector.proofs.HeapStores.StoreSoundness.{IsBesideHeap}
+use Rattle.collector.proofs.Copies.VisibleCopies.{forwarded_is_new}
+use Rattle.collector.proofs.Marks.MarkedHeaps.{with_marked-passes}
+use Rattle.collector.proofs.Addresses.Tests.{is_new_live, new_is_live, value_weakens}
 
 -- what the field gets
 abbrev pub value_for_static : Phase → Objects → Value → Value
@@ -40,13 +43,13 @@ module _ (tree : Tree) (has_round : Bool) (words : ℕ) (p : Progress) (o : Obje
   IsFit own posted_phase = IsBesideHeap tree own posted_phase has_round words p o → IsHeld own posted_phase → ValuePasses (static_may_hold posted_phase (stored_static own o statics number v).0.spaces p number) (value_for_static own o v)
 
   -- what is new may be in any field from PreFlip on
-  new_fits : (posted_phase : Phase) (m : Spaces) (t : Bool) (u : Value) → is_old_alone posted_phase ≡ false → ValuePasses (is_new_address m) u → ValuePasses (λ a. passes (if t then NewOnly else AnyLive) posted_phase m a) u
+  new_fits : (posted_phase : Phase) (m : Spaces) (t : Bool) (u : Value) → is_new_live posted_phase ≡ true → ValuePasses (is_new_address m) u → ValuePasses (λ a. passes (if t then NewOnly else AnyLive) posted_phase m a) u
   new_fits posted_phase m true u late new = new
   new_fits posted_phase m false u late new = value_weakens (is_new_address m) (is_live posted_phase m) (λ a. new_is_live posted_phase m a late) u new
 
   -- the forward of what is live
   forward_fits : (own posted_phase : Phase) → has_copies posted_phase ≡ true → IsBesideHeap tree own posted_phase has_round words p o → ValuePasses (is_live posted_phase o.spaces) v → ValuePasses (is_new_address o.spaces) (forward_value o v)
-  forward_fits own posted_phase copied thread live = forwarded_passes tree own posted_phase has_round words p o thread.sound copied v live
+  forward_fits own posted_phase copied thread live = forwarded_is_new tree posted_phase p o thread.sound.blocks.spaces thread.sound.copies copied v live
 
   -- the static fields aren't scanned while a thread is late
   idle_late : IsFit Idle Mark
@@ -59,7 +62,7 @@ module _ (tree : Tree) (has_round : Bool) (words : ℕ) (p : Progress) (o : Obje
   mark_now thread held = by_scan p.scanned_statics
     where
       by_scan : (t : Bool) → ValuePasses (λ a. passes (if t then MarkedOnly else AnyLive) Mark (with_marked o v).spaces a) v
-      by_scan true = value_then_marked o v held
+      by_scan true = with_marked-passes o thread.sound.blocks.spaces v held
       by_scan false = value_weakens (is_live Mark o.spaces) (is_live Mark (with_marked o v).spaces) (live_grows o.spaces (with_marked o v).spaces (value_mark_grows o v) Mark) v held
 
   mark_late : IsFit Mark Allocate

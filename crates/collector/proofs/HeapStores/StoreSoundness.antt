@@ -22,14 +22,17 @@ use Rattle.collector.specs.Phases.{is_live, is_marked_address, is_new_address}
 use Rattle.collector.specs.Soundness.{IsSoundHeap, copied_word}
 use Rattle.collector.specs.Holds.{HasNotBegun, IsOnTime, is_flipping, is_marking, passes}
 use Rattle.collector.specs.declared.progress.Progress.{Progress}
-use Rattle.collector.proofs.Addresses.Disjunctions.{false_is_true}
 use Rattle.collector.proofs.Addresses.TagChanges.{monitor_keeps_tags, slot_keeps_tags}
 use Rattle.collector.proofs.HeapStores.CellChanges.{AreStored}
 use Rattle.collector.proofs.Copies.AgreeingCopies.{monitor_stored, monitors_alike, slots_alike, word_stored}
-use Rattle.collector.proofs.Addresses.LiveForwards.{forward_short, has_copies, live_forward, new_forward}
+use Rattle.collector.proofs.Addresses.LiveForwards.{has_copies, new_forward}
 use Rattle.collector.proofs.HeapStores.ReachedCopies.{IsBeside, IsRight, Way, in_both, in_new, in_old, change_stays, changed_by, way_of}
-use Rattle.collector.proofs.Marks.MarksOfStores.{live_grows, marked_kind, value_mark_grows, value_mark_leaves, value_mark_same, value_mark_sound, value_then_marked, value_weakens}
+use Rattle.collector.proofs.Marks.MarksOfStores.{live_grows, marked_kind, value_mark_grows, value_mark_leaves, value_mark_same, value_mark_sound}
 use Rattle.collector.proofs.ThreadReferences.LiveValues.{IsShort, held_by, held_is_live, held_is_new, is_reference, passes_in_slot, reference_again}
+use Rattle.cil_model.proofs.SameLaws.{never}
+use Rattle.collector.proofs.Copies.VisibleCopies.{forward_short, forwarded_is_new}
+use Rattle.collector.proofs.Marks.MarkedHeaps.{with_marked-passes}
+use Rattle.collector.proofs.Addresses.Tests.{value_weakens}
 
 -- ---- threads and what they store
 
@@ -67,8 +70,8 @@ flipping_beside posted_phase (inr late) = subst (λ q. is_flipping q ≡ true) l
 
 -- a store to both copies finds copies
 pub way_copies : (own posted_phase : Phase) (p : Progress) → Way own posted_phase p → reaches_both own ≡ true → has_copies posted_phase ≡ true
-way_copies own posted_phase p (in_old one alone nothing) both = false_is_true (sym one ∙ both)
-way_copies own posted_phase p (in_new one last) both = false_is_true (sym one ∙ both)
+way_copies own posted_phase p (in_old one alone nothing) both = never (sym one ∙ both)
+way_copies own posted_phase p (in_new one last) both = never (sym one ∙ both)
 way_copies own posted_phase p (in_both two copied) both = copied
 
 module _ (tree : Tree) (own posted_phase : Phase) (has_round : Bool) (words : ℕ) (p : Progress) (o : Objects) (sound : IsSoundHeap tree posted_phase has_round words p o.spaces) where
@@ -83,14 +86,9 @@ module _ (tree : Tree) (own posted_phase : Phase) (has_round : Bool) (words : �
   forwarded_new (Ref a) new = ap (λ (x : Addr). Ref x) (new_forward m spaces a new)
   forwarded_new _ new = refl
 
-  -- the forward of what is live is new
-  pub forwarded_passes : has_copies posted_phase ≡ true → (v : Value) → ValuePasses (is_live posted_phase m) v → ValuePasses (is_new_address m) (forward_value o v)
-  forwarded_passes copied (Ref a) live = live_forward tree posted_phase has_round words p m sound copied a live
-  forwarded_passes copied _ live = tt
-
   -- a forward is as short as any address
   pub forwarded_short : (v : Value) → IsShort v → IsShort (forward_value o v)
-  forwarded_short (Ref a) short = forward_short tree posted_phase has_round words p m sound a short
+  forwarded_short (Ref a) short = forward_short tree posted_phase p m spaces sound.copies a short
   forwarded_short _ short = tt
 
   forwarded_reference : (v : Value) → is_reference (forward_value o v) ≡ is_reference v
@@ -119,7 +117,7 @@ module _ (tree : Tree) (own posted_phase : Phase) (has_round : Bool) (words : �
         let flipping : is_flipping own ≡ true = ap is_flipping (sym is) in
         let flipping' : is_flipping posted_phase ≡ true = flipping_beside posted_phase (subst (λ r. IsBeside r posted_phase) (sym is) beside) in
         sym (forwarded_new v (value_weakens (passes (held_by own posted_phase) posted_phase m) (is_new_address m) (λ a. held_is_new own posted_phase m a flipping flipping') v value.held))
-    is_forward _ is beside both = false_is_true both
+    is_forward _ is beside both = never both
 
     module _ (beside : IsBeside own posted_phase) (way : Way own posted_phase p) (marks : posted_phase ≡ Mark → HasNotBegun posted_phase has_round p m ⊎ ValuePasses (is_marked_address m) v) where
       other_is : reaches_both own ≡ true → value_for_new own o v ≡ forward_value o v
@@ -132,7 +130,7 @@ module _ (tree : Tree) (own posted_phase : Phase) (has_round : Bool) (words : �
       new_stored both d decoded =
           let copied = way_copies own posted_phase p way both in
           word_stored tree (is_new_address m) d slot (value_word (forward_value o v))
-          (passes_in_slot tree (is_new_address m) d.kind slot (forward_value o v) (forwarded_short v value.short) (forwarded_reference v ∙ decoded_reference d decoded) (forwarded_passes copied v live))
+          (passes_in_slot tree (is_new_address m) d.kind slot (forward_value o v) (forwarded_short v value.short) (forwarded_reference v ∙ decoded_reference d decoded) (forwarded_is_new tree posted_phase p o spaces sound.copies copied v live))
 
       -- a value that is held is right for the slot, and its forward for that of the new copy
       pub value_right : IsRight tree posted_phase has_round p m kind (reaches_both own) (store_slot slot (value_word v)) (store_slot slot (value_word (value_for_new own o v)))
@@ -180,7 +178,7 @@ module _ (tree : Tree) (has_round : Bool) (words : ℕ) (p : Progress) (o : Obje
       in
       change_stays tree Mark has_round words p q sound (store_slot slot (value_word v)) (store_slot slot (value_word v)) Mark a lies.0 lies.1
       (live_grows o.spaces q.spaces grows Mark a object.held)
-      (value_right tree Mark Mark has_round words p q sound lies.0.kind slot v held thread.beside way (λ mark. inr (value_then_marked o v value.held)))
+      (value_right tree Mark Mark has_round words p q sound lies.0.kind slot v held thread.beside way (λ mark. inr (with_marked-passes o thread.sound.blocks.spaces v value.held)))
       way
 
   -- once Allocate is posted what it holds is marked
@@ -190,7 +188,7 @@ module _ (tree : Tree) (has_round : Bool) (words : ℕ) (p : Progress) (o : Obje
       let way = way_of Mark Allocate has_round p o.spaces thread.beside thread.on_time in
       subst (λ (q : Objects). IsSoundHeap tree Allocate has_round words p (with_slot q a slot (value_word v)).spaces) (sym (value_mark_same o v thread.sound.blocks.spaces value.held))
       (change_stays tree Allocate has_round words p o thread.sound (store_slot slot (value_word v)) (store_slot slot (value_word v)) Mark a c object.lies object.held
-      (value_right tree Mark Allocate has_round words p o thread.sound c.kind slot v value thread.beside way (λ mark. false_is_true (ap is_marking mark)))
+      (value_right tree Mark Allocate has_round words p o thread.sound c.kind slot v value thread.beside way (λ mark. never (ap is_marking mark)))
       way)
 
   abbrev IsKept : (own posted_phase : Phase) → Type 0
@@ -203,14 +201,14 @@ module _ (tree : Tree) (has_round : Bool) (words : ℕ) (p : Progress) (o : Obje
   -- a value in a slot
   pub value_keeps : (own posted_phase : Phase) → IsBesideHeap tree own posted_phase has_round words p o → IsHeldObject own posted_phase o a c → IsHeldValue tree own posted_phase o c.kind slot v
       → IsSoundHeap tree posted_phase has_round words p (stored_value own o a slot v).spaces
-  value_keeps Idle posted_phase thread object value = unmarked_stays Idle posted_phase (λ e. false_is_true (ap is_marking e)) thread object value
+  value_keeps Idle posted_phase thread object value = unmarked_stays Idle posted_phase (λ e. never (ap is_marking e)) thread object value
   value_keeps Mark posted_phase thread object value = marks_stay posted_phase thread.beside thread object value
-  value_keeps Allocate posted_phase thread object value = unmarked_stays Allocate posted_phase (λ e. false_is_true (ap is_marking e)) thread object value
-  value_keeps Copy posted_phase thread object value = unmarked_stays Copy posted_phase (λ e. false_is_true (ap is_marking e)) thread object value
-  value_keeps PreFlip posted_phase thread object value = unmarked_stays PreFlip posted_phase (λ e. false_is_true (ap is_marking e)) thread object value
-  value_keeps HeapFlip posted_phase thread object value = unmarked_stays HeapFlip posted_phase (λ e. false_is_true (ap is_marking e)) thread object value
-  value_keeps ThreadFlip posted_phase thread object value = unmarked_stays ThreadFlip posted_phase (λ e. false_is_true (ap is_marking e)) thread object value
-  value_keeps Reclaim posted_phase thread object value = unmarked_stays Reclaim posted_phase (λ e. false_is_true (ap is_marking e)) thread object value
+  value_keeps Allocate posted_phase thread object value = unmarked_stays Allocate posted_phase (λ e. never (ap is_marking e)) thread object value
+  value_keeps Copy posted_phase thread object value = unmarked_stays Copy posted_phase (λ e. never (ap is_marking e)) thread object value
+  value_keeps PreFlip posted_phase thread object value = unmarked_stays PreFlip posted_phase (λ e. never (ap is_marking e)) thread object value
+  value_keeps HeapFlip posted_phase thread object value = unmarked_stays HeapFlip posted_phase (λ e. never (ap is_marking e)) thread object value
+  value_keeps ThreadFlip posted_phase thread object value = unmarked_stays ThreadFlip posted_phase (λ e. never (ap is_marking e)) thread object value
+  value_keeps Reclaim posted_phase thread object value = unmarked_stays Reclaim posted_phase (λ e. never (ap is_marking e)) thread object value
 
 -- ---- whose monitor it is
 
@@ -253,9 +251,9 @@ module _ (tree : Tree) (own posted_phase : Phase) (has_round : Bool) (words : �
     word_right = record {
       keeps_old = slot_keeps_tags slot word;
       keeps_new = slot_keeps_tags slot word;
-      old = λ d decoded. word_stored tree (is_live posted_phase o.spaces) d slot word (λ link. false_is_true (sym (hidden_in d decoded) ∙ link));
-      marks = λ mark. inr (λ d decoded. word_stored tree (is_marked_address o.spaces) d slot word (λ link. false_is_true (sym (hidden_in d decoded) ∙ link)));
-      new = λ both d decoded. word_stored tree (is_new_address o.spaces) d slot word (λ link. false_is_true (sym (hidden_in d decoded) ∙ link));
+      old = λ d decoded. word_stored tree (is_live posted_phase o.spaces) d slot word (λ link. never (sym (hidden_in d decoded) ∙ link));
+      marks = λ mark. inr (λ d decoded. word_stored tree (is_marked_address o.spaces) d slot word (λ link. never (sym (hidden_in d decoded) ∙ link)));
+      new = λ both d decoded. word_stored tree (is_new_address o.spaces) d slot word (λ link. never (sym (hidden_in d decoded) ∙ link));
       copies = λ both x d e decoded were. slots_alike tree posted_phase p o.spaces slot word word x d e were (sym (ap (λ t. if t then (forward o.spaces (reference_in word)).number else word) (hidden_in d decoded)));
     }
 

@@ -8,18 +8,18 @@ use Rattle.cil_model.specs.declared.phases.Phase.TheVariants.{Mark}
 use Rattle.cil_model.specs.declared.trees.Tree.{Tree}
 use Rattle.object_memory.specs.declared.addresses.Addr.{Addr}
 use Rattle.object_memory.specs.declared.values.Value.{Value}
-use Rattle.object_memory.specs.declared.values.Value.TheVariants.{Ref}
 use Rattle.object_memory.specs.Cells.{Cell}
 use Rattle.object_memory.specs.Spaces.{Spaces, cell_at, change_copies, is_old, other_of}
 use Rattle.object_memory.specs.Objects.{Objects, object_cell}
 use Rattle.object_memory.proofs.TwoSpaces.TwoBlocks.{change-other, change-own}
 use Rattle.object_memory.proofs.TwoSpaces.TwoCopies.{change_copies-alone, change_copies-else, change_copies-other, change_copies-own}
-use Rattle.barriers.specs.Barriers.{stored_static, with_marked}
+use Rattle.barriers.specs.Barriers.{stored_static}
 use Rattle.collector.specs.Soundness.{IsSoundHeap}
 use Rattle.collector.specs.declared.progress.Progress.{Progress}
 use Rattle.collector.proofs.Addresses.TagChanges.{KeepsTags, keeps_size}
 use Rattle.collector.proofs.HeapStores.ReachedCopies.{changed_by}
 use Rattle.collector.proofs.ThreadReferences.StorableValues.{other_lies}
+use Rattle.collector.proofs.Marks.MarkedHeaps.{with_marked-literals}
 
 -- ---- what a store reaches
 
@@ -101,11 +101,7 @@ module _ (tree : Tree) (posted_phase : Phase) (has_round : Bool) (words : ℕ) (
 
 -- ---- literals
 
-marked_literals : (o : Objects) (v : Value) → (with_marked o v).literals ≡ o.literals
-marked_literals o (Ref a) = refl
-marked_literals o _ = refl
-
--- and so does a store to a static field
+-- a store to a static field changes no monitor of a literal
 pub static_literals : (own : Phase) (o : Objects) (statics : List Value) (number : ℕ) (v : Value) → (stored_static own o statics number v).0.literals ≡ o.literals
-static_literals Mark o statics number v = marked_literals o v
+static_literals Mark o statics number v = with_marked-literals o v
 static_literals _ o statics number v = refl

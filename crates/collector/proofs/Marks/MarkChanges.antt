@@ -1,22 +1,21 @@
 -- Blocks that differ in marks alone: what was marked, old, new or live stays so, and so does all that is true of a heap in Mark but for marks.
-use Rattle.std.proofs.Common.{◌≡◌, inl, inr, ℕ, ◌≤◌, Bool, true, [], refl, sym, ap, subst, ◌∙◌, arith}
-use Rattle.std.specs.Prelude.{◌||◌, is_some, Some, None, slice_get}
-use Rattle.std.proofs.lemmas.Bool.{or_cases, or_left, or_right}
+use Rattle.std.proofs.Common.{◌≡◌, inl, inr, ℕ, Bool, true, [], refl, sym, ap, subst, ◌∙◌}
+use Rattle.std.specs.Prelude.{is_some, Some, None, slice_get}
 use Rattle.std.proofs.lemmas.Option.{none-some}
-use Rattle.cil_model.specs.declared.phases.Phase.{Phase}
-use Rattle.cil_model.specs.declared.phases.Phase.TheVariants.{Idle, Mark, Allocate, Copy, Reclaim}
+use Rattle.cil_model.specs.declared.phases.Phase.TheVariants.{Mark}
 use Rattle.cil_model.specs.declared.trees.Tree.{Tree}
 use Rattle.object_memory.specs.declared.addresses.Addr.{Addr}
 use Rattle.object_memory.specs.Cells.{Cell, Cells, cell_in}
-use Rattle.object_memory.specs.Spaces.{AreSpaces, HasShellRoom, Spaces, cell_at, is_old}
+use Rattle.object_memory.specs.Spaces.{AreSpaces, HasShellRoom, Spaces, cell_at}
 use Rattle.object_memory.proofs.TwoSpaces.TwoBlocks.{either, new_is_cell, old_is_cell}
-use Rattle.collector.specs.References.{SlotsPass, holds_reference, is_permanent, reference_in}
-use Rattle.collector.specs.Phases.{is_live, is_live_object, is_marked_address, is_marked_old, is_new, is_new_address}
+use Rattle.collector.specs.References.{SlotsPass, holds_reference, reference_in}
+use Rattle.collector.specs.Phases.{is_live}
 use Rattle.collector.specs.Soundness.{AreBlocks, AreCopied, AreMarked, IsSoundHeap}
-use Rattle.collector.specs.Holds.{AnyLive, Hold, MarkedOnly, NewOnly, passes}
 use Rattle.collector.specs.declared.progress.Progress.{Progress}
 use Rattle.collector.proofs.BlockWalks.CollectorOffsets.{HasCursor-else}
 use Rattle.collector.proofs.Addresses.Tests.{mark_is, marked_cell, never, none_is_new, old_cell, old_is}
+use Rattle.collector.proofs.Addresses.GrowingBlocks.{TestsStay, live_stays}
+use Rattle.collector.proofs.PhaseChanges.LaterPhases.{AreBlocks-kept}
 
 -- ---- blocks that differ in marks alone
 
@@ -74,52 +73,13 @@ AreDarker-trans m n o f g = record {
 }
 
 module _ (m n : Spaces) (darker : AreDarker m n) where
-  -- what was marked, old, new, live or there stays so
-  pub stays_marked : (a : Addr) → is_marked_old m a ≡ true → is_marked_old n a ≡ true
-  stays_marked a h =
-      let c = marked_cell m a h in
-      let d = darker.kept a c.0 c.1 in
-      mark_is n a d.0 d.1 ∙ d.2.marked c.2
-
-  pub stays_old : (a : Addr) → is_old m a ≡ true → is_old n a ≡ true
-  stays_old a h =
-      let c = old_cell m a h in
-      let d = darker.kept a c.0 c.1 in
-      old_is n a d.0 d.1
-
-  pub stays_new : (a : Addr) → is_new m a ≡ true → is_new n a ≡ true
-  stays_new a h = subst (λ s. is_some (cell_in s a) ≡ true) (sym darker.new) h
-
-  stays_either : (a : Addr) → (is_marked_old m a || is_new m a) ≡ true → (is_marked_old n a || is_new n a) ≡ true
-  stays_either a h = elim (or_cases (is_marked_old m a) (is_new m a) h) [
-    | inl marked ↦ or_left (is_marked_old n a) (is_new n a) (stays_marked a marked)
-    | inr new ↦ or_right (is_marked_old n a) (is_new n a) (stays_new a new)
-  ]
-
-  stays_live_object : (posted_phase : Phase) (a : Addr) → is_live_object posted_phase m a ≡ true → is_live_object posted_phase n a ≡ true
-  stays_live_object Idle a h = stays_old a h
-  stays_live_object Mark a h = stays_old a h
-  stays_live_object Allocate a h = stays_marked a h
-  stays_live_object Copy a h = stays_marked a h
-  stays_live_object Reclaim a h = stays_new a h
-  stays_live_object _ a h = stays_either a h
-
-  pub stays_live : (posted_phase : Phase) (a : Addr) → is_live posted_phase m a ≡ true → is_live posted_phase n a ≡ true
-  stays_live posted_phase a h = elim (or_cases (is_permanent a) (is_live_object posted_phase m a) h) [
-    | inl permanent ↦ or_left (is_permanent a) (is_live_object posted_phase n a) permanent
-    | inr live ↦ or_right (is_permanent a) (is_live_object posted_phase n a) (stays_live_object posted_phase a live)
-  ]
-
-  pub stays_marked_address : (a : Addr) → is_marked_address m a ≡ true → is_marked_address n a ≡ true
-  stays_marked_address a h = stays_live Allocate a h
-
-  pub stays_new_address : (a : Addr) → is_new_address m a ≡ true → is_new_address n a ≡ true
-  stays_new_address a h = stays_live Reclaim a h
-
-  pub stays_passing : (hold : Hold) (posted_phase : Phase) (a : Addr) → passes hold posted_phase m a ≡ true → passes hold posted_phase n a ≡ true
-  stays_passing AnyLive posted_phase a h = stays_live posted_phase a h
-  stays_passing MarkedOnly posted_phase a h = stays_marked_address a h
-  stays_passing NewOnly posted_phase a h = stays_new_address a h
+  -- what was marked, old, new or there stays so
+  pub darker_tests : TestsStay m n
+  darker_tests = record {
+    old = λ a h. let c = old_cell m a h in let d = darker.kept a c.0 c.1 in old_is n a d.0 d.1;
+    marked = λ a h. let c = marked_cell m a h in let d = darker.kept a c.0 c.1 in mark_is n a d.0 d.1 ∙ d.2.marked c.2;
+    new = λ a h. subst (λ s. is_some (cell_in s a) ≡ true) (sym darker.new) h;
+  }
 
   pub stays_there : AreSpaces m → (a : Addr) (c : Cell) → cell_at m a ≡ Some c → (d : Cell) × (cell_at n a ≡ Some d) × IsDarker c d
   stays_there spaces a c e = elim (either m a c e) [
@@ -130,20 +90,13 @@ module _ (m n : Spaces) (darker : AreDarker m n) where
   -- ---- and all that is true of the heap in Mark, but for marks
 
   AreBlocks-darker : (words : ℕ) → AreBlocks Mark words m → AreBlocks Mark words n
-  AreBlocks-darker words blocks = record {
-    few = blocks.few;
-    spaces = darker.spaces blocks.spaces;
-    held = darker.held ∙ blocks.held;
-    old_words = subst (λ w. w ≤ words) (sym darker.words) blocks.old_words;
-    new_words = subst (λ (s : Cells). s.words ≤ words) (sym darker.new) blocks.new_words;
-    grows = λ e. (let old = darker.words in let new = ap (λ (s : Cells). s.words) darker.new in let g = blocks.grows e in omega (arith, old, new, g));
-    none_new = λ early. ap (λ s. s.cells) darker.new ∙ blocks.none_new early;
-    none_grey = λ e. never (sym e);
-  }
+  AreBlocks-darker words blocks =
+      AreBlocks-kept Mark Mark words m n blocks refl (darker.spaces blocks.spaces) darker.held darker.words (ap (λ (s : Cells). s.words) darker.new)
+      (λ early. ap (λ s. s.cells) darker.new ∙ blocks.none_new early) (λ e. never (sym e))
 
   slots_then : (tree : Tree) (c d : Cell) → IsDarker c d → SlotsPass tree (is_live Mark m) c → SlotsPass tree (is_live Mark n) d
   slots_then tree c d same h slot word there held =
-      stays_live Mark (reference_in word)
+      live_stays m n darker_tests (reference_in word) Mark
       (h slot word (subst (λ l. slice_get l slot ≡ Some word) same.slots there) (subst (λ k. holds_reference tree k slot ≡ true) same.kind held))
 
 -- no object has a copy in Mark, and none is new: so only this is asked of copies then

@@ -1,6 +1,6 @@
 -- Marking, step by step: what marks keep, and what a step does to the oldest grey object.
 use Rattle.std.proofs.Common.{◌≡◌, ◌+◌, ◌<◌, ◌≤◌, ◌||◌, Bool, true, false, List, [], ◌∷◌, length, drop, refl, subst, arith}
-use Rattle.std.specs.Prelude.{◌==◌, is_some, nat_lt, All, Option, Some, None, slice_get}
+use Rattle.std.specs.Prelude.{◌==◌, is_some, nat_lt, All, Some, None, slice_get}
 use Rattle.std.proofs.lemmas.Bool.Decides.{nat_tests}
 use Rattle.std.proofs.lemmas.List.Elements.{All-head, All-weaker}
 use Rattle.cil_model.specs.declared.trees.Tree.{Tree}
@@ -12,10 +12,11 @@ use Rattle.object_memory.specs.Spaces.{Spaces, cell_at, is_white, marked_if, set
 use Rattle.object_memory.specs.Objects.{Objects, object_cell}
 use Rattle.object_memory.proofs.Counts.{change-there}
 use Rattle.barriers.specs.Barriers.{is_value_in_heap, with_marked}
-use Rattle.collector.specs.Phases.{is_marked_cell, is_marked_old}
+use Rattle.collector.specs.Phases.{is_marked_old}
 use Rattle.collector.specs.MarkSteps.{mark_step, next_mark_step, oldest_cell, slot_scanned}
 use Rattle.collector.specs.Conditions.{AreValuesInHeap}
 use Rattle.collector.specs.declared.progress.Progress.{Progress}
+use Rattle.collector.proofs.Addresses.Tests.{marked_there}
 
 -- ---- what a mark keeps
 
@@ -50,12 +51,8 @@ all_kept o v vs all = All-weaker (λ w. is_value_in_heap o w ≡ true) (λ w. is
 
 -- ---- the oldest grey object
 
-marked_at : (o : Option Cell) → is_marked_cell o ≡ true → (c : Cell) × (o ≡ Some c) × (c.marked ≡ true)
-marked_at None e = absurd cc
-marked_at (Some c) e = (c, refl, e)
-
 pub oldest_there : (m : Spaces) (g : Addr) → All (λ a. is_marked_old m a ≡ true) m.grey → Some g ≡ slice_get m.grey 0 → (c : Cell) × (cell_in m.old g ≡ Some c) × (c.marked ≡ true)
-oldest_there m g all e = marked_at (cell_in m.old g) (by_list m.grey all e)
+oldest_there m g all e = marked_there (cell_in m.old g) (by_list m.grey all e)
   where
     by_list : (gs : List Addr) → All (λ a. is_marked_old m a ≡ true) gs → Some g ≡ slice_get gs 0 → is_marked_old m g ≡ true
     by_list [] all e = absurd cc

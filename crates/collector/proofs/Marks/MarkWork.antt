@@ -102,6 +102,22 @@ mark-oldest m g q h = by_white (is_white (cell_in m.old q))
     by_white false = h
     by_white true = begins_more g q m.grey h
 
+-- what is true of the objects stays so in a step where a mark of a value and the end of a scan keep it
+step_keeps : (tree : Tree) (p : Progress) (o : Objects) (P : Objects → Type 0) → P o → ((v : Value) → P (with_marked o v)) → ((rest : List Addr) → P (without_oldest o rest)) → P (next_mark_step tree p o).1
+step_keeps tree p o P same marked ended = by_step o.spaces.grey (oldest_cell o o.spaces.grey)
+  where
+    by_kind : (v : Value) (b : Bool) → P (if b then with_marked o v else o)
+    by_kind v true = marked v
+    by_kind v false = same
+
+    by_slots : (rest : List Addr) (c : Cell) (b : Bool) → P (step_by tree p o rest c b).1
+    by_slots rest c true = by_kind (Ref (reference_in (word_of c p.scanned_slots))) (holds_reference tree c.kind p.scanned_slots)
+    by_slots rest c false = ended rest
+
+    by_step : (grey : List Addr) (cell : Option Cell) → P (mark_step tree p o grey cell).1
+    by_step (g ∷ rest) (Some c) = by_slots rest c (nat_lt p.scanned_slots (length c.slots))
+    by_step _ _ = same
+
 module _ (tree : Tree) (has_round : Bool) (words : ℕ) (p : Progress) (o : Objects) (sound : IsSoundHeap tree Mark has_round words p o.spaces) where
   marks : AreMarked tree has_round p o.spaces
   marks = sound.marks refl
@@ -216,19 +232,10 @@ module _ (tree : Tree) (has_round : Bool) (words : ℕ) (p : Progress) (o : Obje
       closed = marks.closed;
     }
 
-    step_darker : (b : Bool) → AreDarker o.spaces (step_by tree p o rest c b).1.spaces
-    step_darker true = scan_darker p.scanned_slots
-    step_darker false = AreDarker-same o.spaces (without_oldest o rest).spaces refl refl refl
-
     step_marks : (b : Bool) → nat_lt p.scanned_slots (length c.slots) ≡ b
         → AreMarked tree has_round (step_by tree p o rest c b).0 (step_by tree p o rest c b).1.spaces
     step_marks true e = AreMarked-scanned
     step_marks false e = AreMarked-without_oldest (ltb-false p.scanned_slots (length c.slots) e)
-
-  marked_darker : (grey : List Addr) → o.spaces.grey ≡ grey → (cell : Option Cell) → oldest_cell o grey ≡ cell
-      → AreDarker o.spaces (mark_step tree p o grey cell).1.spaces
-  marked_darker (g ∷ rest) e (Some c) is = step_darker g rest c e is (nat_lt p.scanned_slots (length c.slots))
-  marked_darker _ e _ is = AreDarker-same o.spaces o.spaces refl refl refl
 
   marked_marks : (grey : List Addr) → o.spaces.grey ≡ grey → (cell : Option Cell) → oldest_cell o grey ≡ cell
       → AreMarked tree has_round (mark_step tree p o grey cell).0 (mark_step tree p o grey cell).1.spaces
@@ -237,7 +244,9 @@ module _ (tree : Tree) (has_round : Bool) (words : ℕ) (p : Progress) (o : Obje
 
   -- a step of marking changes marks alone
   pub AreDarker-next_mark_step : AreDarker o.spaces (next_mark_step tree p o).1.spaces
-  AreDarker-next_mark_step = marked_darker o.spaces.grey refl (oldest_cell o o.spaces.grey) refl
+  AreDarker-next_mark_step =
+      step_keeps tree p o (λ n. AreDarker o.spaces n.spaces) (AreDarker-same o.spaces o.spaces refl refl refl)
+      (λ v. AreDarker-with_marked o sound.blocks.spaces v) (λ rest. AreDarker-same o.spaces (without_oldest o rest).spaces refl refl refl)
 
   -- and keeps what is true of the heap
   pub IsSoundHeap-next_mark_step : IsSoundHeap tree Mark has_round words (next_mark_step tree p o).0 (next_mark_step tree p o).1.spaces
@@ -278,32 +287,8 @@ module _ (tree : Tree) (p : Progress) (o : Objects) where
 
   -- a mark of before is not forgotten
   pub next_mark_step-noted : o.spaces.has_marked ≡ true → (next_mark_step tree p o).1.spaces.has_marked ≡ true
-  next_mark_step-noted h = by_step o.spaces.grey (oldest_cell o o.spaces.grey)
-    where
-      by_kind : (v : Value) (b : Bool) → (if b then with_marked o v else o).spaces.has_marked ≡ true
-      by_kind v true = with_marked-noted o v h
-      by_kind v false = h
-
-      by_slots : (rest : List Addr) (c : Cell) (b : Bool) → (step_by tree p o rest c b).1.spaces.has_marked ≡ true
-      by_slots rest c true = by_kind (Ref (reference_in (word_of c p.scanned_slots))) (holds_reference tree c.kind p.scanned_slots)
-      by_slots rest c false = h
-
-      by_step : (grey : List Addr) (cell : Option Cell) → (mark_step tree p o grey cell).1.spaces.has_marked ≡ true
-      by_step (g ∷ rest) (Some c) = by_slots rest c (nat_lt p.scanned_slots (length c.slots))
-      by_step _ _ = h
+  next_mark_step-noted h = step_keeps tree p o (λ n. n.spaces.has_marked ≡ true) h (λ v. with_marked-noted o v h) (λ rest. h)
 
   -- no monitor of a literal changes
   pub next_mark_step-literals : (next_mark_step tree p o).1.literals ≡ o.literals
-  next_mark_step-literals = by_step o.spaces.grey (oldest_cell o o.spaces.grey)
-    where
-      by_kind : (v : Value) (b : Bool) → (if b then with_marked o v else o).literals ≡ o.literals
-      by_kind v true = with_marked-literals o v
-      by_kind v false = refl
-
-      by_slots : (rest : List Addr) (c : Cell) (b : Bool) → (step_by tree p o rest c b).1.literals ≡ o.literals
-      by_slots rest c true = by_kind (Ref (reference_in (word_of c p.scanned_slots))) (holds_reference tree c.kind p.scanned_slots)
-      by_slots rest c false = refl
-
-      by_step : (grey : List Addr) (cell : Option Cell) → (mark_step tree p o grey cell).1.literals ≡ o.literals
-      by_step (g ∷ rest) (Some c) = by_slots rest c (nat_lt p.scanned_slots (length c.slots))
-      by_step _ _ = refl
+  next_mark_step-literals = step_keeps tree p o (λ n. n.literals ≡ o.literals) refl (λ v. with_marked-literals o v) (λ rest. refl)

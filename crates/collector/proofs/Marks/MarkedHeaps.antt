@@ -1,6 +1,6 @@
 -- Marks keep what is true of a heap while Mark is posted: the mark of one object, and those of all that a list of values refers to.
 use Rattle.std.proofs.Common.{◌≡◌, ◌≢◌, ◌⊎◌, inl, inr, ℕ, ◌<◌, Bool, true, false, List, [], ◌∷◌, ◌++◌, refl, sym, ap, subst, ◌∙◌, arith}
-use Rattle.std.specs.Prelude.{if◌then◌else◌, Option, Some, None, slice_get, All}
+use Rattle.std.specs.Prelude.{if◌then◌else◌, is_some, Option, Some, None, slice_get, All}
 use Rattle.std.proofs.lemmas.Bool.{or_cases, or_left, or_right}
 use Rattle.std.proofs.lemmas.List.Elements.{All-cons, All-head, All-nil, All-push, All-tail, All-weaker}
 use Rattle.cil_model.specs.declared.phases.Phase.TheVariants.{Mark}
@@ -22,11 +22,11 @@ use Rattle.collector.specs.Soundness.{AreMarked, IsListed, IsSoundHeap}
 use Rattle.collector.specs.MarkSteps.{with_all_marked}
 use Rattle.collector.specs.Holds.{HasNotBegun}
 use Rattle.collector.specs.declared.progress.Progress.{Progress}
-use Rattle.collector.proofs.Addresses.Tests.{mark_is, marked_cell, never, old_cell, slots_weaken, value_weakens}
-use Rattle.collector.proofs.Marks.MarkChanges.{AreDarker, AreDarker-same, AreDarker-trans, IsDarker, IsDarker-refl, IsSoundHeap-darker, stays_live, stays_marked, stays_marked_address}
-
-same_address : (a b : Addr) → b.number ≡ a.number → a ≡ b
-same_address a b e = ap (λ (n : ℕ). record { number = n }) (sym e)
+use Rattle.collector.proofs.Addresses.Tests.{mark_is, marked_cell, never, old_cell, slots_weaken, value_weakens, same_address}
+use Rattle.collector.proofs.Marks.MarkChanges.{AreDarker, AreDarker-same, AreDarker-trans, IsDarker, IsDarker-refl, IsSoundHeap-darker, darker_tests}
+use Rattle.collector.proofs.Addresses.GrowingBlocks.{TestsStay, live_stays, marked_stays}
+use Rattle.collector.proofs.Addresses.TagChanges.{read_alike}
+use Rattle.cil_model.specs.declared.phases.Phase.{Phase}
 
 -- ---- a mark
 
@@ -39,18 +39,51 @@ count_if_white (Some c) e = (c, refl, unmarked c.marked e)
     unmarked true e = never e
     unmarked false e = refl
 
-listed-before : (list : List Addr) (q a : Addr) → IsListed list a → IsListed (list ++ q ∷ []) a
+pub listed-before : (list : List Addr) (q a : Addr) → IsListed list a → IsListed (list ++ q ∷ []) a
 listed-before [] q a h = absurd h
 listed-before (b ∷ bs) q a (inl e) = inl e
 listed-before (b ∷ bs) q a (inr h) = inr (listed-before bs q a h)
 
-listed-last : (list : List Addr) (q : Addr) → IsListed (list ++ q ∷ []) q
+pub listed-last : (list : List Addr) (q : Addr) → IsListed (list ++ q ∷ []) q
 listed-last [] q = inl refl
 listed-last (b ∷ bs) q = inr (listed-last bs q)
 
-module _ (m : Spaces) (spaces : AreSpaces m) (q : Addr) (c : Cell) (lies : cell_in m.old q ≡ Some c) (white : c.marked ≡ false) where
+module _ (m : Spaces) (q : Addr) where
   abbrev n : Spaces
   n = marked_if true m q
+
+  -- an old cell after the mark is that of the address, or lay there before
+  before : (a : Addr) (d : Cell) → cell_in n.old a ≡ Some d → (q ≡ a) ⊎ (cell_in m.old a ≡ Some d)
+  before a d e =
+      let b = after_in set_mark (λ x. refl) m.old q a d e in
+      elim b.2 [
+        | own same equal ↦ inl (sym (same_address a q same))
+        | still ne equal ↦ inr (b.1 ∙ ap Some (sym equal))
+      ]
+
+  -- what is old, marked or new stays so
+  white_tests : TestsStay m n
+  white_tests = record {
+    old = λ a h. read_alike is_some set_mark (λ x. refl) (λ x. refl) m.old q a ∙ h;
+    marked = λ a h. (
+        let c = marked_cell m a h in
+        let d = before_in set_mark (λ x. refl) m.old q a c.0 c.1 in
+        mark_is n a d.0 d.1 ∙ elim d.2 [ own same e ↦ ap (λ x. x.marked) e | still ne e ↦ ap (λ x. x.marked) e ∙ c.2 ]);
+    new = λ a h. read_alike is_some set_mark (λ x. refl) (λ x. refl) m.new q a ∙ h;
+  }
+
+  all_grey_then : ((a : Addr) → is_marked_old m a ≡ true → IsListed m.grey a) → (a : Addr) → is_marked_old n a ≡ true → IsListed n.grey a
+  all_grey_then grey a h =
+      let d = marked_cell n a h in
+      elim (before a d.0 d.1) [
+        | inl same ↦ subst (λ x. IsListed n.grey x) same (listed-last m.grey q)
+        | inr there ↦ listed-before m.grey q a (grey a (mark_is m a d.0 there ∙ d.2))
+      ]
+
+-- of an unmarked old cell
+module _ (m : Spaces) (spaces : AreSpaces m) (q : Addr) (c : Cell) (lies : cell_in m.old q ≡ Some c) (white : c.marked ≡ false) where
+  abbrev after : Spaces
+  after = marked_if true m q
 
   darker_after : (a : Addr) (b d : Cell) → IsAfter set_mark q a b d → IsDarker b d
   darker_after a b d (own same e) = record {
@@ -62,7 +95,7 @@ module _ (m : Spaces) (spaces : AreSpaces m) (q : Addr) (c : Cell) (lies : cell_
   }
   darker_after a b d (still ne e) = subst (λ x. IsDarker b x) (sym e) (IsDarker-refl b)
 
-  AreDarker-marked : AreDarker m n
+  AreDarker-marked : AreDarker m after
   AreDarker-marked = record {
     kept = λ a b e. let d = before_in set_mark (λ x. refl) m.old q a b e in (d.0, d.1, darker_after a b d.0 d.2);
     was = λ a d e. let b = after_in set_mark (λ x. refl) m.old q a d e in (b.0, b.1, darker_after a b.0 d b.2);
@@ -73,25 +106,16 @@ module _ (m : Spaces) (spaces : AreSpaces m) (q : Addr) (c : Cell) (lies : cell_
     room = λ h r. let g = HasShellRoom-change m h r set_mark (λ x. refl) (λ x. refl) q in record { words = g.words; long = g.long };
   }
 
-  -- it is another cell, or lay there before
-  before : (a : Addr) (d : Cell) → cell_in n.old a ≡ Some d → (q ≡ a) ⊎ (cell_in m.old a ≡ Some d)
-  before a d e =
-      let b = after_in set_mark (λ x. refl) m.old q a d e in
-      elim b.2 [
-        | own same equal ↦ inl (same_address q a same)
-        | still ne equal ↦ inr (b.1 ∙ ap Some (sym equal))
-      ]
+  now_marked : is_marked_old after q ≡ true
+  now_marked = mark_is after q (set_mark c) (own_in set_mark m.old q c lies)
 
-  now_marked : is_marked_old n q ≡ true
-  now_marked = mark_is n q (set_mark c) (own_in set_mark m.old q c lies)
-
-  slots_now : (tree : Tree) (d : Cell) → SlotsPass tree (is_marked_address m) d → SlotsPass tree (is_marked_address n) d
-  slots_now tree d = slots_weaken tree (is_marked_address m) (is_marked_address n) (stays_marked_address m n AreDarker-marked) d
+  slots_now : (tree : Tree) (d : Cell) → SlotsPass tree (is_marked_address m) d → SlotsPass tree (is_marked_address after) d
+  slots_now tree d = slots_weaken tree (is_marked_address m) (is_marked_address after) (marked_stays m after (white_tests m q)) d
 
   module _ (tree : Tree) (has_round : Bool) (p : Progress) (marks : AreMarked tree has_round p m) where
-    black_then : (a : Addr) (d : Cell) → cell_in n.old a ≡ Some d → d.marked ≡ true → IsListed n.grey a ⊎ SlotsPass tree (is_marked_address n) d
-    black_then a d e dark = elim (before a d e) [
-      | inl same ↦ inl (subst (λ x. IsListed n.grey x) same (listed-last m.grey q))
+    black_then : (a : Addr) (d : Cell) → cell_in after.old a ≡ Some d → d.marked ≡ true → IsListed after.grey a ⊎ SlotsPass tree (is_marked_address after) d
+    black_then a d e dark = elim (before m q a d e) [
+      | inl same ↦ inl (subst (λ x. IsListed after.grey x) same (listed-last m.grey q))
       | inr there ↦ elim (marks.black a d there dark) [
         | inl grey ↦ inl (listed-before m.grey q a grey)
         | inr black ↦ inr (slots_now tree d black)
@@ -107,12 +131,12 @@ module _ (m : Spaces) (spaces : AreSpaces m) (q : Addr) (c : Cell) (lies : cell_
         let dark : is_marked_old m g ≡ true = All-head (λ a. is_marked_old m a ≡ true) g rest (rw e at marks.listed) in
         never (sym white ∙ (sym (mark_is m q c lies) ∙ subst (λ x. is_marked_old m x ≡ true) (sym same) dark))
 
-    oldest_then : (list : List Addr) → m.grey ≡ list → (g : Addr) (rest : List Addr) (d : Cell) → list ++ q ∷ [] ≡ g ∷ rest → cell_in n.old g ≡ Some d →
-        (slot word : ℕ) → slot < p.scanned_slots → slice_get d.slots slot ≡ Some word → holds_reference tree d.kind slot ≡ true → is_marked_address n (reference_in word) ≡ true
+    oldest_then : (list : List Addr) → m.grey ≡ list → (g : Addr) (rest : List Addr) (d : Cell) → list ++ q ∷ [] ≡ g ∷ rest → cell_in after.old g ≡ Some d →
+        (slot word : ℕ) → slot < p.scanned_slots → slice_get d.slots slot ≡ Some word → holds_reference tree d.kind slot ≡ true → is_marked_address after (reference_in word) ≡ true
     oldest_then [] e g rest d is there slot word near at_slot held = let none = marks.fresh e in absurd (omega (arith, none, near))
-    oldest_then (b ∷ bs) e g rest d is there slot word near at_slot held = elim (before g d there) [
+    oldest_then (b ∷ bs) e g rest d is there slot word near at_slot held = elim (before m q g d there) [
       | inl same ↦ absurd (clash g bs (e ∙ ap (λ x. x ∷ bs) first) same)
-      | inr was ↦ stays_marked_address m n AreDarker-marked (reference_in word) (marks.oldest g bs d (e ∙ ap (λ x. x ∷ bs) first) was slot word near at_slot held)
+      | inr was ↦ marked_stays m after (white_tests m q) (reference_in word) (marks.oldest g bs d (e ∙ ap (λ x. x ∷ bs) first) was slot word near at_slot held)
     ]
       where
         first : b ≡ g
@@ -122,27 +146,40 @@ module _ (m : Spaces) (spaces : AreSpaces m) (q : Addr) (c : Cell) (lies : cell_
     was_dark a = is_marked_old m a ≡ true
 
     is_dark : Addr → Type 0
-    is_dark a = is_marked_old n a ≡ true
+    is_dark a = is_marked_old after a ≡ true
 
-    AreMarked-marked : AreMarked tree has_round p n
+    AreMarked-marked : AreMarked tree has_round p after
     unfolding was_dark is_dark
     AreMarked-marked = record {
-      listed = All-push is_dark m.grey q (All-weaker was_dark is_dark (stays_marked m n AreDarker-marked) m.grey marks.listed) now_marked;
+      listed = All-push is_dark m.grey q (All-weaker was_dark is_dark (white_tests m q).marked m.grey marks.listed) now_marked;
       black = black_then;
       fresh = fresh_then m.grey refl;
       oldest = oldest_then m.grey refl;
       closed = λ round clean. never (sym clean);
     }
 
-  all_grey_then : ((a : Addr) → is_marked_old m a ≡ true → IsListed m.grey a) → (a : Addr) → is_marked_old n a ≡ true → IsListed n.grey a
-  all_grey_then grey a h =
-      let d = marked_cell n a h in
-      elim (before a d.0 d.1) [
-        | inl same ↦ subst (λ x. IsListed n.grey x) same (listed-last m.grey q)
-        | inr there ↦ listed-before m.grey q a (grey a (mark_is m a d.0 there ∙ d.2))
-      ]
-
 -- of any address
+module _ (m : Spaces) (q : Addr) where
+  tests_by : (b : Bool) → TestsStay m (marked_if b m q)
+  tests_by false = record { old = λ a h. h; marked = λ a h. h; new = λ a h. h }
+  tests_by true = white_tests m q
+
+  -- what is old, marked or new stays so
+  pub mark_tests : TestsStay m (mark m q).0
+  mark_tests = tests_by (is_white (cell_in m.old q))
+
+  all_grey_by : (b : Bool) → ((a : Addr) → is_marked_old m a ≡ true → IsListed m.grey a) → (a : Addr) → is_marked_old (marked_if b m q) a ≡ true → IsListed (marked_if b m q).grey a
+  all_grey_by false grey = grey
+  all_grey_by true grey = all_grey_then m q grey
+
+  -- where the collector has not begun it still hasn't
+  pub HasNotBegun-mark : (posted_phase : Phase) (has_round : Bool) (p : Progress) → HasNotBegun posted_phase has_round p m → HasNotBegun posted_phase has_round p (mark m q).0
+  HasNotBegun-mark posted_phase has_round p late = record {
+    nothing = late.nothing;
+    no_round = late.no_round;
+    all_grey = λ now. all_grey_by (is_white (cell_in m.old q)) (late.all_grey now);
+  }
+
 module _ (m : Spaces) (spaces : AreSpaces m) (q : Addr) where
   darker_by : (b : Bool) → is_white (cell_in m.old q) ≡ b → AreDarker m (marked_if b m q)
   darker_by false e = AreDarker-same m m refl refl refl
@@ -170,19 +207,6 @@ module _ (m : Spaces) (spaces : AreSpaces m) (q : Addr) where
         let d = mark_marks m spaces q c.0 c.1 in
         or_right (is_permanent q) (is_marked_old (mark m q).0 q) (mark_is (mark m q).0 q d.0 d.1 ∙ d.2)
   ]
-
-  all_grey_by : (b : Bool) → is_white (cell_in m.old q) ≡ b → ((a : Addr) → is_marked_old m a ≡ true → IsListed m.grey a) → (a : Addr)
-      → is_marked_old (marked_if b m q) a ≡ true → IsListed (marked_if b m q).grey a
-  all_grey_by false e grey = grey
-  all_grey_by true e grey = let c = count_if_white (cell_in m.old q) e in all_grey_then m spaces q c.0 c.1 c.2 grey
-
-  -- a thread that is late marks, and the collector has not begun still
-  pub HasNotBegun-mark : (has_round : Bool) (p : Progress) → HasNotBegun Mark has_round p m → HasNotBegun Mark has_round p (mark m q).0
-  HasNotBegun-mark has_round p late = record {
-    nothing = late.nothing;
-    no_round = late.no_round;
-    all_grey = λ posted_phase. all_grey_by (is_white (cell_in m.old q)) refl (late.all_grey posted_phase);
-  }
 
 -- a mark is not forgotten before the next round
 pub mark-noted : (m : Spaces) (q : Addr) → m.has_marked ≡ true → (mark m q).0.has_marked ≡ true
@@ -212,10 +236,9 @@ module _ (o : Objects) (spaces : AreSpaces o.spaces) where
   with_marked-passes (Ref a) h = mark-passes o.spaces spaces a h
   with_marked-passes _ h = tt
 
-  pub HasNotBegun-with_marked : (has_round : Bool) (p : Progress) → HasNotBegun Mark has_round p o.spaces → (v : Value)
-      → HasNotBegun Mark has_round p (with_marked o v).spaces
-  HasNotBegun-with_marked has_round p late (Ref a) = HasNotBegun-mark o.spaces spaces a has_round p late
-  HasNotBegun-with_marked has_round p late _ = late
+pub HasNotBegun-with_marked : (o : Objects) (v : Value) (posted_phase : Phase) (has_round : Bool) (p : Progress) → HasNotBegun posted_phase has_round p o.spaces → HasNotBegun posted_phase has_round p (with_marked o v).spaces
+HasNotBegun-with_marked o (Ref a) posted_phase has_round p late = HasNotBegun-mark o.spaces a posted_phase has_round p late
+HasNotBegun-with_marked o _ posted_phase has_round p late = late
 
 pub with_marked-noted : (o : Objects) (v : Value) → o.spaces.has_marked ≡ true → (with_marked o v).spaces.has_marked ≡ true
 with_marked-noted o (Ref a) h = mark-noted o.spaces a h
@@ -252,8 +275,8 @@ with_all_marked-pass (v ∷ vs) o spaces h =
     let rest = AreDarker-with_all_marked vs n (first.spaces spaces) in
     let was_live = ValuePasses (is_live Mark o.spaces) in
     let still_live = ValuePasses (is_live Mark n.spaces) in
-    let weaken = value_weakens (is_live Mark o.spaces) (is_live Mark n.spaces) (stays_live o.spaces n.spaces first Mark) in
-    let keep = value_weakens (is_marked_address n.spaces) (is_marked_address e.spaces) (stays_marked_address n.spaces e.spaces rest) v in
+    let weaken = value_weakens (is_live Mark o.spaces) (is_live Mark n.spaces) (λ a. live_stays o.spaces n.spaces (darker_tests o.spaces n.spaces first) a Mark) in
+    let keep = value_weakens (is_marked_address n.spaces) (is_marked_address e.spaces) (marked_stays n.spaces e.spaces (darker_tests n.spaces e.spaces rest)) v in
     All-cons (ValuePasses (is_marked_address e.spaces)) v vs
     (keep (with_marked-passes o spaces v (All-head was_live v vs h)))
     (with_all_marked-pass vs n (first.spaces spaces) (All-weaker was_live still_live weaken vs (All-tail was_live v vs h)))
@@ -263,7 +286,7 @@ pub HasNotBegun-with_all_marked : (vs : List Value) (o : Objects) → AreSpaces 
 HasNotBegun-with_all_marked [] o spaces has_round p late = late
 HasNotBegun-with_all_marked (v ∷ vs) o spaces has_round p late =
     HasNotBegun-with_all_marked vs (with_marked o v) ((AreDarker-with_marked o spaces v).spaces spaces) has_round p
-    (HasNotBegun-with_marked o spaces has_round p late v)
+    (HasNotBegun-with_marked o v Mark has_round p late)
 
 module _ (tree : Tree) (has_round : Bool) (words : ℕ) (p : Progress) where
   -- marks of values keep what is true of the heap in Mark

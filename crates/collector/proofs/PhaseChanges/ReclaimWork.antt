@@ -21,8 +21,10 @@ use Rattle.collector.specs.Soundness.{AreBlocks, IsCleared, AreCopied, AreCopies
 use Rattle.collector.specs.Flips.{clear_step_at, next_clear_step, retire_old}
 use Rattle.collector.specs.Holds.{Hold, passes}
 use Rattle.collector.specs.declared.progress.Progress.{Progress}
-use Rattle.collector.proofs.Addresses.GrowingBlocks.{TestsStay, new_stays, passes_stays, slots_weaken, some_there}
+use Rattle.collector.proofs.Addresses.GrowingBlocks.{TestsStay, new_stays, passes_stays}
 use Rattle.collector.proofs.BlockWalks.FirstCells.{IsFound, found_is, none_found}
+use Rattle.collector.proofs.Addresses.Tests.{slots_weaken, some_there}
+use Rattle.collector.proofs.PhaseChanges.LaterPhases.{AreBlocks-kept}
 
 -- a cell without mark and other copy
 abbrev cleared_cell : Cell → Cell
@@ -73,16 +75,9 @@ module _ (tree : Tree) (has_round : Bool) (words : ℕ) (p : Progress) (m : Spac
 
   -- the blocks are as they should be
   clear_blocks : AreBlocks Reclaim words m'
-  clear_blocks = record {
-    few = sound.blocks.few;
-    spaces = subst AreSpaces clear_is (AreSpaces-change cleared_cell cleared_size m there sound.blocks.spaces);
-    held = sound.blocks.held;
-    old_words = sound.blocks.old_words;
-    new_words = sound.blocks.new_words;
-    grows = sound.blocks.grows;
-    none_new = λ e. absurd cc;
-    none_grey = sound.blocks.none_grey;
-  }
+  clear_blocks =
+      AreBlocks-kept Reclaim Reclaim words m m' sound.blocks refl (subst AreSpaces clear_is (AreSpaces-change cleared_cell cleared_size m there sound.blocks.spaces)) refl refl refl
+      (λ e. absurd cc) sound.blocks.none_grey
 
   -- copies have nothing to show any more
   cleared_copies : (a : Addr) (c d : Cell) → AreCopies tree Reclaim p m a c d → AreCopies tree Reclaim p' m' a c (cleared_cell d)
@@ -221,40 +216,31 @@ module _ (tree : Tree) (has_round : Bool) (words : ℕ) (p : Progress) (o : Obje
   step_is : (at : ℕ) (c : Cell) → cell_in m.new (record { number = at }) ≡ Some c → clear_step_at p o (Some at) ≡ step_to at (Some c)
   step_is at c lies = ap (step_to at) lies
 
-  -- by what is found
-  sound_by : (x : Option ℕ) → found_in is_noted m.new (m.new.start + p.cursor) ≡ x → IsSoundHeap tree Reclaim has_round words (clear_step_at p o x).0 (clear_step_at p o x).1.spaces
-  sound_by None is = sound
-  sound_by (Some at) is =
-      let found = found_is is_noted m.new (m.new.start + p.cursor) at is in
-      subst (λ (x : Progress × Objects × Bool). IsSoundHeap tree Reclaim has_round words x.0 x.1.spaces) (sym (step_is at found.cell found.lies)) (one_sound tree has_round words p m sound at found)
+  -- what is true of a step that finds nothing, and of each that clears, is true of the next step
+  step_is_as : (P : Progress × Objects × Bool → Type 0) → P (p, o, false) → ((at : ℕ) (found : IsFound is_noted m.new (m.new.start + p.cursor) at) → P (step_to at (Some found.cell))) → P (next_clear_step p o)
+  step_is_as P none some = by_found (found_in is_noted m.new (m.new.start + p.cursor)) refl
+    where
+      by_found : (x : Option ℕ) → found_in is_noted m.new (m.new.start + p.cursor) ≡ x → P (clear_step_at p o x)
+      by_found None is = none
+      by_found (Some at) is = let found = found_is is_noted m.new (m.new.start + p.cursor) at is in subst P (sym (step_is at found.cell found.lies)) (some at found)
 
   -- it keeps the heap sound
   pub cleared_sound : IsSoundHeap tree Reclaim has_round words (next_clear_step p o).0 (next_clear_step p o).1.spaces
-  cleared_sound = sound_by (found_in is_noted m.new (m.new.start + p.cursor)) refl
-
-  stays_by : (x : Option ℕ) → found_in is_noted m.new (m.new.start + p.cursor) ≡ x → TestsStay m (clear_step_at p o x).1.spaces
-  stays_by None is = record { old = λ a e. e; marked = λ a e. e; new = λ a e. e }
-  stays_by (Some at) is =
-      let found = found_is is_noted m.new (m.new.start + p.cursor) at is in
-      subst (λ (x : Progress × Objects × Bool). TestsStay m x.1.spaces) (sym (step_is at found.cell found.lies)) (one_stays tree has_round words p m sound at found)
+  cleared_sound = step_is_as (λ x. IsSoundHeap tree Reclaim has_round words x.0 x.1.spaces) sound (one_sound tree has_round words p m sound)
 
   -- what is old, marked or new stays so
   pub cleared_tests : TestsStay m (next_clear_step p o).1.spaces
-  cleared_tests = stays_by (found_in is_noted m.new (m.new.start + p.cursor)) refl
+  cleared_tests = step_is_as (λ x. TestsStay m x.1.spaces) (record { old = λ a e. e; marked = λ a e. e; new = λ a e. e }) (one_stays tree has_round words p m sound)
 
   -- and what may be held, for each hold
   pub cleared_stays : (hold : Hold) (a : Addr) → passes hold Reclaim m a ≡ true → passes hold Reclaim (next_clear_step p o).1.spaces a ≡ true
   cleared_stays hold a pass = passes_stays m (next_clear_step p o).1.spaces cleared_tests a hold Reclaim pass
 
-  shows_by : (x : Option ℕ) → found_in is_noted m.new (m.new.start + p.cursor) ≡ x → (b : Addr) (c : Cell) → cell_at m b ≡ Some c → (d : Cell) × (object_cell (clear_step_at p o x).1 b ≡ Some d) × ShowsSame c d
-  shows_by None is b c lies = (c, lies, record { kind = refl; slots = refl; monitor = refl })
-  shows_by (Some at) is b c lies =
-      let found = found_is is_noted m.new (m.new.start + p.cursor) at is in
-      subst (λ (x : Progress × Objects × Bool). (d : Cell) × (object_cell x.1 b ≡ Some d) × ShowsSame c d) (sym (step_is at found.cell found.lies)) (one_shows tree has_round words p m sound at found b c lies)
-
   -- each object shows what it showed
   pub cleared_shows : (b : Addr) (c : Cell) → object_cell o b ≡ Some c → (d : Cell) × (object_cell (next_clear_step p o).1 b ≡ Some d) × ShowsSame c d
-  cleared_shows b c lies = shows_by (found_in is_noted m.new (m.new.start + p.cursor)) refl b c lies
+  cleared_shows b c lies =
+      step_is_as (λ x. (d : Cell) × (object_cell x.1 b ≡ Some d) × ShowsSame c d) (c, lies, record { kind = refl; slots = refl; monitor = refl })
+      (λ at found. one_shows tree has_round words p m sound at found b c lies)
 
   -- ---- the end of the cycle
 

@@ -3,7 +3,6 @@ use Rattle.std.proofs.Common.{◌≡◌, ◌≢◌, inl, inr, ℕ, ◌+◌, ◌<
 use Rattle.std.specs.Prelude.{◌&&◌, not, Some}
 use Rattle.std.proofs.lemmas.Bool.{and_parts, not-true}
 use Rattle.std.proofs.lemmas.List.Elements.{All-nil}
-use Rattle.std.proofs.lemmas.Option.{none-some}
 use Rattle.cil_model.specs.declared.phases.Phase.{Phase}
 use Rattle.cil_model.specs.declared.phases.Phase.TheVariants.{Idle, Mark, Allocate}
 use Rattle.cil_model.specs.declared.trees.Tree.{Tree}
@@ -21,9 +20,10 @@ use Rattle.collector.specs.Soundness.{AreMarked, IsListed, IsSoundHeap}
 use Rattle.collector.specs.MarkSteps.{is_closed, is_none_grey}
 use Rattle.collector.specs.Holds.{HasNotBegun}
 use Rattle.collector.specs.declared.progress.Progress.{Progress}
-use Rattle.collector.proofs.Addresses.Tests.{marked_cell, never, none_is_new}
+use Rattle.collector.proofs.Addresses.Tests.{marked_cell, never}
 use Rattle.collector.proofs.BlockWalks.CollectorOffsets.{HasCursor-begun}
 use Rattle.collector.proofs.Marks.MarkChanges.{AreCopied-in_mark, AreDarker-same, IsSoundHeap-darker}
+use Rattle.collector.proofs.PhaseChanges.LaterPhases.{IsSoundHeap-on}
 
 -- each marked old object refers to marked ones alone
 abbrev pub IsClosedMarking : Tree → Spaces → Type 0
@@ -102,41 +102,12 @@ module _ (tree : Tree) (has_round : Bool) (words : ℕ) (p : Progress) (m : Spac
   shells_then : (a : Addr) (c : Cell) → cell_in m.old a ≡ Some c → a.number < m.old.start + 0 → ⊥
   shells_then a c e early = absurd (omega (arith, early, (range_in m.old a c e).0))
 
-  none_new : m.new.cells ≡ []
-  none_new = sound.blocks.none_new refl
-
   -- where each marked object refers to marked ones alone, Allocate can be posted
   pub IsSoundHeap-allocate : IsClosedMarking tree m → (round_then : Bool) → IsSoundHeap tree Allocate round_then words no_progress m
-  IsSoundHeap-allocate closed round_then = record {
-    blocks = record {
-      few = sound.blocks.few;
-      spaces = sound.blocks.spaces;
-      held = sound.blocks.held;
-      old_words = sound.blocks.old_words;
-      new_words = sound.blocks.new_words;
-      grows = sound.blocks.grows;
-      none_new = λ early. never early;
-      none_grey = λ between. never (sym between);
-    };
-    copies = record {
-      no_copy = λ a c e early. never early;
-      unmarked = λ a c e between. never (sym between);
-      out = λ a b c e other. absurd (none-some b (sym (sound.copies.no_copy a c e refl) ∙ other));
-      back = λ a b d e other. absurd (none-some d (sym (none_is_new m b none_new) ∙ e));
-      shells = λ a c e marked early. absurd (shells_then a c e early);
-      marked_only = λ a c e other. absurd (other (sound.copies.no_copy a c e refl));
-      old_references = closed;
-      new_references = λ b d e. absurd (none-some d (sym (none_is_new m b none_new) ∙ e));
-      room = λ early. sound.copies.room (inl refl);
-    };
-    cursor = HasCursor-begun Allocate m;
-    loaded = λ e. absurd cc;
-    marks = λ posted_phase. absurd (apart posted_phase);
-    cleared = λ posted_phase. absurd cc;
-  }
-    where
-      apart : Allocate ≡ Mark → ⊥
-      apart e = cc
+  IsSoundHeap-allocate closed round_then =
+      IsSoundHeap-on tree Mark Allocate has_round round_then words p no_progress m sound refl refl refl (λ e. absurd cc)
+      (λ a c word lies some short is. absurd (some (sound.copies.no_copy a c lies refl))) (λ a c lies marked early. absurd (shells_then a c lies early)) closed
+      (λ e. sound.copies.room (inl refl)) (HasCursor-begun Allocate m) (λ e. absurd cc) (λ e. absurd cc)
 
 -- what the end of marking takes
 pub record HasClosed (p : Progress) (o : Objects) (h : Handshakes) : Type 0 where

@@ -17,8 +17,10 @@ use Rattle.collector.specs.Soundness.{IsSoundHeap}
 use Rattle.collector.specs.Flips.{flip_step, next_flip_step}
 use Rattle.collector.specs.Holds.{AnyLive, NewOnly, passes, static_may_hold, static_hold_of}
 use Rattle.collector.specs.declared.progress.Progress.{Progress}
-use Rattle.collector.proofs.Addresses.GrowingBlocks.{TestsStay, passes_stays, value_weakens}
-use Rattle.collector.proofs.PhaseChanges.FlipPhases.{forwarded_is_new, in_heap_flip}
+use Rattle.collector.proofs.Addresses.GrowingBlocks.{TestsStay, passes_stays}
+use Rattle.collector.proofs.PhaseChanges.FlipPhases.{in_heap_flip}
+use Rattle.collector.proofs.Copies.VisibleCopies.{forwarded_is_new}
+use Rattle.collector.proofs.Addresses.Tests.{value_weakens}
 
 -- each static field holds what it may
 abbrev pub StaticsPass : Phase → Spaces → Progress → List Value → Type 0
@@ -70,7 +72,7 @@ module _ (tree : Tree) (has_round : Bool) (words : ℕ) (p : Progress) (o : Obje
       own at same =
           let now : nat_lt number (p.flipped_statics + 1) ≡ true = grind (arith, nat_tests) in
           let before : nat_lt p.flipped_statics p.flipped_statics ≡ false = grind (arith, nat_tests) in
-          let new = forwarded_is_new tree HeapFlip has_round words p o sound refl v (live_test p.flipped_statics v before is) in
+          let new = forwarded_is_new tree HeapFlip p o sound.blocks.spaces sound.copies refl v (live_test p.flipped_statics v before is) in
           subst (λ t. ValuePasses (passes (if t then NewOnly else AnyLive) HeapFlip m) w) (sym now) (subst (ValuePasses (passes NewOnly HeapFlip m)) (sym same) new)
 
       by_test : (t : Bool) → nat_lt number p.flipped_statics ≡ t → number ≢ p.flipped_statics → slice_get statics number ≡ Some w → ValuePasses (static_may_hold HeapFlip m further number) w

@@ -1,8 +1,7 @@
 -- What a thread may hold is live, and lies in the heap; and which values may be stored in which slots.
-use Rattle.std.proofs.Common.{◌≡◌, inl, inr, ℕ, ◌<◌, Bool, true, false, refl, sym, ap, ◌∙◌, subst, arith}
+use Rattle.std.proofs.Common.{◌≡◌, ◌⊎◌, inl, inr, ℕ, ◌<◌, Bool, true, false, refl, sym, ap, ◌∙◌, subst, arith}
 use Rattle.std.specs.Prelude.{◌==◌, ◌||◌, ◌&&◌, not, if◌then◌else◌, is_some, Option, Some, None}
 use Rattle.cil_model.specs.declared.phases.Phase.{Phase}
-use Rattle.cil_model.specs.declared.phases.Phase.TheVariants.{Idle, Mark, Allocate, Copy, Reclaim}
 use Rattle.cil_model.specs.declared.trees.Tree.{Tree}
 use Rattle.object_memory.specs.declared.addresses.Addr.{Addr}
 use Rattle.object_memory.specs.declared.addresses.TheConstants.{ADDRESSES}
@@ -10,18 +9,21 @@ use Rattle.object_memory.specs.declared.kinds.Kind.{Kind}
 use Rattle.object_memory.specs.declared.values.Value.{Value}
 use Rattle.object_memory.specs.declared.values.Value.TheVariants.{Int32, Int64, Native, Ref}
 use Rattle.object_memory.specs.Cells.{Cell, cell_in, literal_number}
-use Rattle.object_memory.specs.Spaces.{Spaces, cell_at, first_of, is_old, is_there}
+use Rattle.object_memory.specs.Spaces.{Spaces, cell_at, first_of, is_there}
 use Rattle.object_memory.specs.Objects.{Objects, object_cell}
 use Rattle.object_memory.specs.Values.{value_word}
 use Rattle.barriers.specs.Barriers.{is_value_in_heap}
 use Rattle.phase_handshake.specs.Handshakes.{Handshakes}
 use Rattle.phase_handshake.specs.declared.posts.Seat.{Seat}
-use Rattle.collector.specs.References.{Test, ValuePasses, holds_reference, is_permanent, reference_in}
-use Rattle.collector.specs.Phases.{is_live, is_live_object, is_marked_address, is_marked_old, is_new, is_new_address}
+use Rattle.collector.specs.References.{Test, ValuePasses, holds_reference, reference_in}
+use Rattle.collector.specs.Phases.{is_live, is_new_address}
 use Rattle.collector.specs.Holds.{AnyLive, Hold, MarkedOnly, NewOnly, hold_of, is_flipping, is_marking, may_hold, passes}
-use Rattle.collector.proofs.Addresses.Disjunctions.{false_is_true, either_true, or_second, or_more, or_of_three}
-use Rattle.collector.proofs.Addresses.LiveForwards.{marked_is_some, flipping_has_new, new_is_live}
+use Rattle.collector.proofs.Addresses.Disjunctions.{or_of_three}
 use Rattle.collector.proofs.Marks.MarksOfStores.{Grows, passes_then}
+use Rattle.cil_model.proofs.SameLaws.{never}
+use Rattle.collector.proofs.Addresses.Tests.{flipping_is_late, marked_is_live, marking_is_mark, new_is_live}
+use Rattle.collector.proofs.Addresses.GrowingBlocks.{in_new, in_old, live_lies, permanent}
+use Rattle.std.proofs.lemmas.Bool.{or_right}
 
 -- ---- threads
 
@@ -34,7 +36,7 @@ pub held_is_live : (own posted_phase : Phase) (m : Spaces) (a : Addr) → passes
 held_is_live own posted_phase m a held = by_tests (is_flipping own) (is_flipping posted_phase) refl held
   where
     by_tests : (s t : Bool) → is_flipping posted_phase ≡ t → passes (if s && t then NewOnly else AnyLive) posted_phase m a ≡ true → is_live posted_phase m a ≡ true
-    by_tests true true flipping h = new_is_live posted_phase m a (flipping_has_new posted_phase flipping) h
+    by_tests true true flipping h = new_is_live posted_phase m a (flipping_is_late posted_phase flipping) h
     by_tests _ _ flipping h = h
 
 -- from its own flip on a thread holds what is new
@@ -43,16 +45,12 @@ held_is_new own posted_phase m a flipping flipping' held =
     let both : (is_flipping own && is_flipping posted_phase) ≡ true = rw (flipping, flipping') refl in
     subst (λ t. passes (if t then NewOnly else AnyLive) posted_phase m a ≡ true) both held
 
-marked_is_live : (posted_phase : Phase) (m : Spaces) (a : Addr) → is_marking posted_phase ≡ true → is_marked_address m a ≡ true → is_live posted_phase m a ≡ true
-marked_is_live Mark m a marking marked = or_more (is_permanent a) (is_marked_old m a) (is_old m a) (marked_is_some (cell_in m.old a)) marked
-marked_is_live _ m a marking marked = false_is_true marking
-
 -- a thread that answered a round holds less
 pub may_hold_is_held : (h : Handshakes) (m : Spaces) (seat : Seat) (a : Addr) → may_hold h m seat a ≡ true → passes (held_by seat.phase h.posted_phase) h.posted_phase m a ≡ true
 may_hold_is_held h m seat a held = by_tests (is_flipping seat.phase && is_flipping h.posted_phase) (is_marking h.posted_phase) refl (h.has_round && (seat.answered && not m.has_marked)) held
   where
     by_tests : (s t : Bool) → is_marking h.posted_phase ≡ t → (u : Bool) → passes (if s then NewOnly else if t && u then MarkedOnly else AnyLive) h.posted_phase m a ≡ true → passes (if s then NewOnly else AnyLive) h.posted_phase m a ≡ true
-    by_tests false true marking true e = marked_is_live h.posted_phase m a marking e
+    by_tests false true marking true e = subst (λ q. is_live q m a ≡ true) (sym (marking_is_mark h.posted_phase marking)) (marked_is_live m a e)
     by_tests _ _ marking _ e = e
 
 -- what a thread may hold it may hold still
@@ -98,46 +96,30 @@ reference_again a short = below_itself a.number short
 -- a value that passes, in a slot of references exactly where it is one
 pub passes_in_slot : (tree : Tree) (test : Test) (kind : Kind) (slot : ℕ) (v : Value) → IsShort v → is_reference v ≡ holds_reference tree kind slot → ValuePasses test v → holds_reference tree kind slot ≡ true → test (reference_in (value_word v)) ≡ true
 passes_in_slot tree test kind slot (Ref a) short same passing link = subst (λ x. test x ≡ true) (sym (reference_again a short)) passing
-passes_in_slot tree test kind slot _ short same passing link = false_is_true (same ∙ link)
+passes_in_slot tree test kind slot _ short same passing link = never (same ∙ link)
 
 -- ---- what is live is there
 
-first_there : (x y : Option Cell) → is_some x ≡ true → is_some (first_of x y) ≡ true
-first_there None y e = false_is_true e
-first_there (Some c) y e = refl
-
-second_there : (x y : Option Cell) → is_some y ≡ true → is_some (first_of x y) ≡ true
-second_there None y e = e
-second_there (Some c) y e = refl
-
-old_there : (m : Spaces) (a : Addr) → is_old m a ≡ true → is_some (cell_at m a) ≡ true
-old_there m a e = first_there (cell_in m.old a) (cell_in m.new a) e
-
-new_there : (m : Spaces) (a : Addr) → is_new m a ≡ true → is_some (cell_at m a) ≡ true
-new_there m a e = second_there (cell_in m.old a) (cell_in m.new a) e
-
-marked_there : (m : Spaces) (a : Addr) → is_marked_old m a ≡ true → is_some (cell_at m a) ≡ true
-marked_there m a e = old_there m a (marked_is_some (cell_in m.old a) e)
-
-marked_or_new_there : (m : Spaces) (a : Addr) → (is_marked_old m a || is_new m a) ≡ true → is_some (cell_at m a) ≡ true
-marked_or_new_there m a e = elim (either_true (is_marked_old m a) (is_new m a) e) [ inl marked ↦ marked_there m a marked | inr new ↦ new_there m a new ]
-
-object_there : (posted_phase : Phase) (m : Spaces) (a : Addr) → is_live_object posted_phase m a ≡ true → is_some (cell_at m a) ≡ true
-object_there Idle m a e = old_there m a e
-object_there Mark m a e = old_there m a e
-object_there Allocate m a e = marked_there m a e
-object_there Copy m a e = marked_there m a e
-object_there Reclaim m a e = new_there m a e
-object_there _ m a e = marked_or_new_there m a e
+there_by : (m : Spaces) (a : Addr) → (is_some (cell_in m.old a) ≡ true) ⊎ (is_some (cell_in m.new a) ≡ true) → is_some (cell_at m a) ≡ true
+there_by m a = by_cells (cell_in m.old a) (cell_in m.new a)
+  where
+    by_cells : (x y : Option Cell) → (is_some x ≡ true) ⊎ (is_some y ≡ true) → is_some (first_of x y) ≡ true
+    by_cells (Some c) y e = refl
+    by_cells None y (inl e) = never e
+    by_cells None y (inr e) = e
 
 -- what is live is null, a literal, or an object of the heap
 pub live_is_there : (posted_phase : Phase) (o : Objects) (a : Addr) → is_live posted_phase o.spaces a ≡ true → is_there o.spaces a ≡ true
-live_is_there posted_phase o a live = elim (either_true (is_permanent a) (is_live_object posted_phase o.spaces a) live) [
-  | inl permanent ↦ or_of_three (a.number == 0) (is_some (literal_number a)) (is_some (object_cell o a)) permanent
-  | inr object ↦
-      or_second (a.number == 0) (is_some (literal_number a) || is_some (object_cell o a))
-      (or_second (is_some (literal_number a)) (is_some (object_cell o a)) (object_there posted_phase o.spaces a object))
+live_is_there posted_phase o a live = elim (live_lies o.spaces a posted_phase live) [
+  | permanent null ↦ or_of_three (a.number == 0) (is_some (literal_number a)) (is_some (object_cell o a)) null
+  | in_old c lies ↦ in_block (inl (ap is_some lies))
+  | in_new c lies ↦ in_block (inr (ap is_some lies))
 ]
+  where
+    in_block : (is_some (cell_in o.spaces.old a) ≡ true) ⊎ (is_some (cell_in o.spaces.new a) ≡ true) → is_there o.spaces a ≡ true
+    in_block there =
+        or_right (a.number == 0) (is_some (literal_number a) || is_some (object_cell o a))
+        (or_right (is_some (literal_number a)) (is_some (object_cell o a)) (there_by o.spaces a there))
 
 -- and so is a value that is live, or an integer
 pub live_value_is_there : (posted_phase : Phase) (o : Objects) (v : Value) → ValuePasses (is_live posted_phase o.spaces) v → is_value_in_heap o v ≡ true

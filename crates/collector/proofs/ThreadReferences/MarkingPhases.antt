@@ -15,8 +15,9 @@ use Rattle.collector.specs.MarkSteps.{is_closed}
 use Rattle.collector.specs.Holds.{AnyLive, Hold, MarkedOnly, NewOnly, hold_of, is_flipping, is_marking, may_hold, passes, static_hold_of, static_may_hold}
 use Rattle.collector.specs.declared.progress.Progress.{Progress}
 use Rattle.collector.proofs.Addresses.Tests.{HoldMeans, hold_means, is_marked_only, is_new_live, marked_is_live, means_marked, may_hold_live, never, static_may_hold_live}
-use Rattle.collector.proofs.Marks.MarkChanges.{AreDarker, AreDarker-same, stays_live, stays_new_address, stays_passing}
+use Rattle.collector.proofs.Marks.MarkChanges.{AreDarker, AreDarker-same, darker_tests}
 use Rattle.collector.proofs.PhaseChanges.Rounds.{HasClosed, is_closed-means}
+use Rattle.collector.proofs.Addresses.GrowingBlocks.{live_stays, new_stays, passes_stays}
 
 -- ---- who may hold what
 
@@ -53,10 +54,10 @@ held_again h k m n seat next darker posted_phase phase any a held = by_flip (is_
     by_flip true e =
         let new : is_new_address m a ≡ true =
         subst (λ b. passes (if b then NewOnly else if is_marked_only h m seat then MarkedOnly else AnyLive) h.posted_phase m a ≡ true) e held in
-        rw (same ∙ e) (stays_new_address m n darker a new)
+        rw (same ∙ e) (new_stays m n (darker_tests m n darker) a new)
     by_flip false e =
         may_hold_any k n next a (same ∙ e) any
-        (subst (λ x. is_live x n a ≡ true) (sym posted_phase) (stays_live m n darker h.posted_phase a (may_hold_live h m seat a held)))
+        (subst (λ x. is_live x n a ≡ true) (sym posted_phase) (live_stays m n (darker_tests m n darker) a h.posted_phase (may_hold_live h m seat a held)))
 
 -- what a thread loads from a static field it may hold, where the static fields are scanned before a round is posted
 pub static_loads : (h : Handshakes) (m : Spaces) (p : Progress) (seat : Seat) (number : ℕ)
@@ -112,12 +113,12 @@ stays_held h m n seat darker noted a held = by_marks m.has_marked n.has_marked r
     by_marks true false e f = never (sym f ∙ noted e)
     by_marks false false e f =
         subst (λ b. passes (hold_of h b seat) h.posted_phase n a ≡ true) (e ∙ sym f)
-        (stays_passing m n darker (hold_of h m.has_marked seat) h.posted_phase a held)
+        (passes_stays m n (darker_tests m n darker) a (hold_of h m.has_marked seat) h.posted_phase held)
 
 -- and what a static field may hold
 pub stays_held-static : (posted_phase : Phase) (m n : Spaces) (p : Progress) (number : ℕ) → AreDarker m n → (a : Addr)
     → static_may_hold posted_phase m p number a ≡ true → static_may_hold posted_phase n p number a ≡ true
-stays_held-static posted_phase m n p number darker a held = stays_passing m n darker (static_hold_of posted_phase p number) posted_phase a held
+stays_held-static posted_phase m n p number darker a held = passes_stays m n (darker_tests m n darker) a (static_hold_of posted_phase p number) posted_phase held
 
 -- ---- a cycle opens
 

@@ -20,9 +20,9 @@ use Rattle.collector.specs.Soundness.{IsSoundHeap}
 use Rattle.collector.specs.Holds.{passes}
 use Rattle.collector.specs.declared.progress.Progress.{Progress}
 use Rattle.collector.proofs.HeapStores.ReachedCopies.{IsBeside}
-use Rattle.collector.proofs.Marks.MarksOfStores.{value_weakens}
 use Rattle.collector.proofs.ThreadReferences.LiveValues.{held_by, held_is_live, live_value_is_there}
 use Rattle.collector.proofs.HeapStores.StoreSoundness.{IsBesideHeap, IsHeldObject}
+use Rattle.collector.proofs.Addresses.Tests.{value_weakens}
 
 -- ---- the other copy
 
