@@ -133,6 +133,13 @@ waiting_lives tree s u w h = by_thread (slice_get s.threads u) refl h
 abbrev pub IsNot : ℕ → ℕ → Type 0
 IsNot t v = (v == t) ≡ false
 
+not_equal : (v t : ℕ) → (v ≡ t → ⊥) → IsNot t v
+not_equal v t other = by_test (v == t) refl
+  where
+    by_test : (b : Bool) → (v == t) ≡ b → (v == t) ≡ false
+    by_test false e = e
+    by_test true e = absurd (other (eqb-true v t e))
+
 module _ (t : ℕ) (s after : State) (keeps : KeepsOthers t s after) where
   others_hold : Holds (IsNot t) s after
   others_hold = record { monitors = monitors; objects = objects; lives = lives }
@@ -174,20 +181,12 @@ module _ (t : ℕ) (s after : State) (keeps : KeepsOthers t s after) where
       )
     where
       apart : (v : ℕ) → IsIn set v → IsNot t v
-      apart v h = by_test (v == t) refl
-        where
-          by_test : (b : Bool) → (v == t) ≡ b → (v == t) ≡ false
-          by_test false e = e
-          by_test true e = absurd (outside (ap (slice_get set) (sym (eqb-true v t e)) ∙ h))
+      apart v h = not_equal v t (λ e. outside (ap (slice_get set) (sym e) ∙ h))
 
       ended_apart : (v : ℕ) → HasEnded s v → IsNot t v
-      ended_apart v (x, is, ended) = by_test (v == t) refl
-        where
-          by_test : (b : Bool) → (v == t) ≡ b → (v == t) ≡ false
-          by_test false e = e
-          by_test true e =
-              let same : x ≡ own = same_Some x own (sym is ∙ ap (slice_get s.threads) (eqb-true v t e) ∙ there) in
-              not_both (is_live_thread x) ended (ap is_live_thread same ∙ lives)
+      ended_apart v (x, is, ended) = not_equal v t (λ e.
+          let same : x ≡ own = same_Some x own (sym is ∙ ap (slice_get s.threads) e ∙ there) in
+          not_both (is_live_thread x) ended (ap is_live_thread same ∙ lives))
 
       held_by : (w : Wait) → IsHeldUp s set w → IsForThese (IsNot t) w × IsHeldUp after set w
       held_by (ForMonitor n owner) (inl h) = (apart owner h, inl h)

@@ -18,7 +18,7 @@ use Rattle.cil_model.specs.Typings.{IsAccepted}
 use Rattle.cil_model.proofs.Lists.{none_is_some}
 use Rattle.cil_model.proofs.SameLaws.{not_both}
 use Rattle.reference_machine.specs.BuiltIn.{Action, Enter, Join, action_of, act, enter, join}
-use Rattle.reference_machine.specs.Effects.{StepContext, Effect, Goes, Blocks, Raises, Sticks, when_some, pop_many, are_of_kinds, onward}
+use Rattle.reference_machine.specs.Effects.{StepContext, Effect, Blocks, Raises, Sticks, when_some, pop_many, are_of_kinds, onward}
 use Rattle.reference_machine.specs.States.{Monitor, Free, Held, HeapObject, Frame, Thread, State, class_of, is_live, is_live_thread, monitor_of, object_at, with_monitor}
 use Rattle.reference_machine.specs.Steps.{instruction_at, effect_of, execute, frame_for, is_too_deep, operands, run_method, run_virtual}
 use Rattle.reference_machine.specs.Values.{ObjectName, Value, Reference}
@@ -29,27 +29,14 @@ use Rattle.reference_machine.proofs.TypedStates.RunningFrames.{IsTypedEffect, ru
 use Rattle.reference_machine.specs.Waits.{Wait, ForMonitor, ForEnd, action_found, called_action, end_awaited, held_by_another, top_object, wait_by, wait_in, wait_of, wait_of_thread}
 use Rattle.reference_machine.proofs.Programs.ActingMembers.{acting_is_not_virtual}
 use Rattle.reference_machine.proofs.Deadlocks.SingleOperand.{one_operand}
-use Rattle.reference_machine.proofs.Deadlocks.BlockingInstructions.{IsWaiting, LeavesOthers, effect_keeps, waits_by_top}
-use Rattle.reference_machine.proofs.Runs.InstructionEffects.{goes, blocks, raises, sticks}
+use Rattle.reference_machine.proofs.Deadlocks.BlockingInstructions.{IsWaiting, effect_keeps, waits_by_top}
+use Rattle.reference_machine.proofs.Runs.InstructionEffects.{allowed_blocks}
 
 -- ---- what blocks waits
 
-abbrev DoesNotBlock : Effect → Type 0
-DoesNotBlock Blocks = ⊥
-DoesNotBlock _ = Unit {0}
-
-unblocked : {A : Type 0} (e : Effect) → DoesNotBlock e → e ≡ Blocks → A
-unblocked {A} e k h = absurd (subst DoesNotBlock h k)
-
 -- where a frame's instruction blocks, its thread waits
 pub blocked_waits : (here : StepContext) → IsLegal here.tree → (s : State) (f : Frame) (below : List Frame) → effect_of here s (f ∷ below) ≡ Blocks → IsWaiting here s f
-blocked_waits here legal s f below h = by_effect (effect_of here s (f ∷ below)) (effect_keeps here s f below) h
-  where
-    by_effect : (e : Effect) → LeavesOthers here s f e → e ≡ Blocks → IsWaiting here s f
-    by_effect (Goes fs after) (goes _ _ k) e = unblocked (Goes fs after) tt e
-    by_effect Blocks (blocks w) e = w
-    by_effect (Raises x) (raises _ _) e = unblocked (Raises x) tt e
-    by_effect Sticks sticks e = unblocked Sticks tt e
+blocked_waits here legal s f below h = allowed_blocks (effect_of here s (f ∷ below)) (effect_keeps here s f below) h
 
 -- ---- what waits blocks
 
@@ -236,5 +223,5 @@ module _ (here : StepContext) (s : State) (x : Thread) (there : slice_get s.thre
   blocked_thread_waits legal blocked = by_frames x.frames refl
     where
       by_frames : (fs : List Frame) → x.frames ≡ fs → (w : Wait) × (wait_of here.tree s here.thread ≡ Some w)
-      by_frames [] are = unblocked Sticks tt (sym (ap (effect_of here s) are) ∙ blocked)
+      by_frames [] are = let wrong : Sticks ≡ Blocks = sym (ap (effect_of here s) are) ∙ blocked in absurd cc
       by_frames (f ∷ below) are = let waits = blocked_waits here legal s f below (sym (ap (effect_of here s) are) ∙ blocked) in (waits.0, of_frames (f ∷ below) are ∙ waits.1)

@@ -195,12 +195,10 @@ module _ (tree : Tree) where
         by_thread_status {c} (of_source x found) e =
             let finds : IsTrue (class_finds tree x) = found_passes (λ y. same_class (source_name y) c) (class_finds tree) tree.classes x found (classes_find tree legal) in
             possible_base_is_class b (named x.kind (sym (source_base c x found) ∙ e) (both_first _ _ finds))
-        by_thread_status of_object e = none_is_some b e
         by_thread_status of_string e = subst (λ k. is_interface tree k ≡ false) (same_Some object_name b e) refl
-        by_thread_status of_console e = none_is_some b e
-        by_thread_status of_monitor e = none_is_some b e
         by_thread_status of_thread e = subst (λ k. is_interface tree k ≡ false) (same_Some object_name b e) refl
         by_thread_status (of_none none) e = none_is_some b (sym (ap (option_and_then (λ (d : Declaration). d.base)) none) ∙ e)
+        by_thread_status _ e = none_is_some b e
 
     -- a class has a virtual method for each method of an interface that it lists
     pub implements_listed : (k i : ClassName) (m : Method) → IsTrue (list_any (same_class i) (interfaces_declared tree k)) → (p : Method → Bool) → find p (methods_declared tree i) ≡ Some m → IsTrue (implements_method tree k m)

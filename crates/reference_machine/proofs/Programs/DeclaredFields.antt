@@ -30,8 +30,8 @@ use Rattle.reference_machine.specs.Values.{ObjectName, Born, Literal, Value}
 use Rattle.reference_machine.specs.States.{Contents, Instance, Array, HeapObject, State, entry_at, object_at, type_of_contents}
 use Rattle.reference_machine.specs.Steps.{key_of}
 use Rattle.reference_machine.specs.TypedStates.{IsObjectOf}
-use Rattle.reference_machine.proofs.Programs.DeclaredClasses.{ThreadStatus, of_source, of_object, of_string, of_console, of_monitor, of_thread, of_none, thread_status, source_declares, interface_is_source, none_doubles, listed_is_interface, found_fails}
-use Rattle.reference_machine.proofs.Programs.VirtualTargets.{weaker, nearest_at, interface_holds}
+use Rattle.reference_machine.proofs.Programs.DeclaredClasses.{ThreadStatus, of_source, of_none, thread_status, source_declares, interface_is_source, none_doubles, listed_is_interface, found_fails}
+use Rattle.reference_machine.proofs.Programs.VirtualTargets.{by_plain, weaker, nearest_at, interface_holds}
 
 -- ---- entries under keys
 
@@ -141,15 +141,7 @@ module _ (tree : Tree) where
 
   -- System.Object and System.String have none either
   plain_has_no_field : {A : Type 0} (c : ClassName) (p : Field → Bool) (g : Field) → IsTrue (list_any (same_class c) (string_name ∷ object_name ∷ [])) → find p (fields_declared tree c) ≡ Some g → A
-  plain_has_no_field {A} c p g h e = by_string (either (same_class c string_name) (same_class c object_name || false) h)
-    where
-      by_object : IsTrue (same_class c object_name) ⊎ IsTrue false → A
-      by_object (inl same) = none_is_some g (subst (λ z. find p (fields_declared tree z) ≡ Some g) (same_class_equal c object_name same) e)
-      by_object (inr lost) = never lost
-
-      by_string : IsTrue (same_class c string_name) ⊎ IsTrue (same_class c object_name || false) → A
-      by_string (inl same) = none_is_some g (subst (λ z. find p (fields_declared tree z) ≡ Some g) (same_class_equal c string_name same) e)
-      by_string (inr rest) = by_object (either (same_class c object_name) false rest)
+  plain_has_no_field {A} c p g h e = by_plain (λ z. find p (fields_declared tree z) ≡ Some g → A) (none_is_some g) (none_is_some g) c h e
 
   -- ---- fields of many classes
 
@@ -200,12 +192,8 @@ module _ (tree : Tree) where
         by_thread_status {c} (of_source x found) =
             let single : class_doubles x ≡ false = found_fails (λ k. same_class (source_name k) c) class_doubles tree.classes x found (none_doubles tree legal) in
             ap (has_repeat same_field_name) (source_fields c x found) ∙ of_kind x.kind (field_members x) (or_parts _ _ (or_parts _ _ (or_parts _ _ single).0).0).0
-        by_thread_status of_object = refl
-        by_thread_status of_string = refl
-        by_thread_status of_console = refl
-        by_thread_status of_monitor = refl
-        by_thread_status of_thread = refl
         by_thread_status (of_none e) = ap (λ o. has_repeat same_field_name (listed_by (λ (d : Declaration). d.fields) o)) e
+        by_thread_status _ = refl
 
     -- what is assignable to a type whose chain has a class with a field has that class in its chain
     chain_below : (d : ClassName) (p : Field → Bool) (g : Field) → find p (fields_declared tree d) ≡ Some g → {a b : DeclaredType} → IsAssignable tree a b → HasInChain b d → HasInChain a d

@@ -1,5 +1,5 @@
 -- What a reference to a method finds: a method that a class of the owner's chain declares, of the signature that is named.
-use Rattle.std.proofs.Common.{◌≡◌, ◌⊎◌, ℕ, zero, suc, Bool, true, false, not, if◌then◌else◌, ◌&&◌, IsTrue, List, [], ◌∷◌, find, Option, Some, None, refl, inl, inr, sym, ap, subst}
+use Rattle.std.proofs.Common.{◌≡◌, ℕ, Bool, true, false, not, if◌then◌else◌, ◌&&◌, IsTrue, List, [], ◌∷◌, find, Some, refl, sym, ap, subst}
 use Rattle.std.specs.List.{list_any}
 use Rattle.std.proofs.lemmas.Option.{same_Some}
 use Rattle.cil_model.specs.declared.types.ClassName.{ClassName}
@@ -18,7 +18,7 @@ use Rattle.cil_model.specs.Bodies.{argument_types, reference_operands}
 use Rattle.cil_model.specs.TypeTree.{Declared, parent_element}
 use Rattle.cil_model.specs.Legality.{IsLegal}
 use Rattle.cil_model.proofs.Lists.{none_is_some, find_passes}
-use Rattle.cil_model.proofs.SameLaws.{never, both_first, both_second, either, same_class_equal, same_signature_equal, same_flag_equal}
+use Rattle.cil_model.proofs.SameLaws.{both_first, both_second, same_class_equal, same_signature_equal, same_flag_equal}
 use Rattle.cil_model.proofs.AssignableLaws.{test_is_sound}
 use Rattle.cil_model.proofs.CompleteLaws.{test_is_complete}
 use Rattle.cil_model.proofs.FitsLaws.{below_fits}
@@ -26,7 +26,7 @@ use Rattle.reference_machine.specs.Values.{Value}
 use Rattle.reference_machine.specs.States.{State}
 use Rattle.reference_machine.proofs.Programs.MethodTypings.{IsDeclared, found_is_declared}
 use Rattle.reference_machine.specs.TypedStates.{HasType, HaveTypes}
-use Rattle.reference_machine.proofs.Programs.VirtualTargets.{nearest_at}
+use Rattle.reference_machine.proofs.Programs.VirtualTargets.{nearest_at, up_chain}
 use Rattle.reference_machine.proofs.TypedStates.StackOperands.{value_fits}
 
 -- ---- up a chain
@@ -45,22 +45,7 @@ module _ (tree : Tree) (legal : IsLegal tree) where
 
   -- and of each class of its chain
   chain_above : (n : ℕ) (c d : ClassName) → IsTrue (list_any (same_class d) (chain_within tree n (Some c))) → IsAssignable tree (type_of_class c) (type_of_class d)
-  chain_above zero c d h = never h
-  chain_above (suc n) c d h = by_case (either _ _ h) (λ b h'. chain_above n b d h')
-    where
-      none : (k : ℕ) → IsTrue (list_any (same_class d) (chain_within tree k None)) → IsTrue false
-      none zero i = i
-      none (suc k) i = i
-
-      by_base : (o : Option ClassName) → base_of tree c ≡ o → IsTrue (list_any (same_class d) (chain_within tree n o)) →
-          ((b : ClassName) → IsTrue (list_any (same_class d) (chain_within tree n (Some b))) → IsAssignable tree (type_of_class b) (type_of_class d)) → IsAssignable tree (type_of_class c) (type_of_class d)
-      by_base None e h' further = never (none n h')
-      by_base (Some b) e h' further = chained (base_above c b e) (further b h')
-
-      by_case : IsTrue (same_class d c) ⊎ IsTrue (list_any (same_class d) (chain_within tree n (base_of tree c))) →
-          ((b : ClassName) → IsTrue (list_any (same_class d) (chain_within tree n (Some b))) → IsAssignable tree (type_of_class b) (type_of_class d)) → IsAssignable tree (type_of_class c) (type_of_class d)
-      by_case (inl here) further = subst (λ x. IsAssignable tree (type_of_class c) (type_of_class x)) (sym (same_class_equal d c here)) to_itself
-      by_case (inr there) further = by_base (base_of tree c) refl there further
+  chain_above n c d = up_chain tree d (λ k. IsAssignable tree (type_of_class k) (type_of_class d)) to_itself (λ k b e further. chained (base_above k b e) further) n c
 
 -- ---- what is found
 

@@ -73,6 +73,31 @@ nearest_at {X} at (d ∷ ds) c x h = by_class (at d) refl h (nearest_at at ds c 
     by_class None e k later = let found = later k in (found.0, or_right _ _ found.1)
     by_class (Some y) e k later = subst (λ (p : ClassName × X). (at p.0 ≡ Some p.1) × IsTrue (list_any (same_class p.0) (d ∷ ds))) (same_Some (d, y) (c, x) k) (e, or_left _ _ (same_class_itself d))
 
+-- what holds of System.String and System.Object holds of a class that is one of them
+pub by_plain : (P : ClassName → Type 0) → P string_name → P object_name → (c : ClassName) → IsTrue (list_any (same_class c) (string_name ∷ object_name ∷ [])) → P c
+by_plain P string object c h = by_string (either (same_class c string_name) (same_class c object_name || false) h)
+  where
+    by_object : IsTrue (same_class c object_name) ⊎ IsTrue false → P c
+    by_object (inl same) = subst P (sym (same_class_equal c object_name same)) object
+    by_object (inr lost) = never lost
+
+    by_string : IsTrue (same_class c string_name) ⊎ IsTrue (same_class c object_name || false) → P c
+    by_string (inl same) = subst P (sym (same_class_equal c string_name same)) string
+    by_string (inr rest) = by_object (either (same_class c object_name) false rest)
+
+-- what holds of a class, and of each class whose base it holds of, holds of each class in whose chain the class is
+pub up_chain : (tree : Tree) (q : ClassName) (P : ClassName → Type 0) → P q → ((c b : ClassName) → base_of tree c ≡ Some b → P b → P c) → (n : ℕ) (c : ClassName) → IsTrue (list_any (same_class q) (chain_within tree n (Some c))) → P c
+up_chain tree q P here further zero c h = never h
+up_chain tree q P here further (suc n) c h = by_case (either (same_class q c) (list_any (same_class q) (chain_within tree n (base_of tree c))) h) (λ b. up_chain tree q P here further n b)
+  where
+    by_base : (o : Option ClassName) → base_of tree c ≡ o → IsTrue (list_any (same_class q) (chain_within tree n o)) → ((b : ClassName) → IsTrue (list_any (same_class q) (chain_within tree n (Some b))) → P b) → P c
+    by_base None e t above = never (subst (λ cs. IsTrue (list_any (same_class q) cs)) (none_chain tree n) t)
+    by_base (Some b) e t above = further c b e (above b t)
+
+    by_case : IsTrue (same_class q c) ⊎ IsTrue (list_any (same_class q) (chain_within tree n (base_of tree c))) → ((b : ClassName) → IsTrue (list_any (same_class q) (chain_within tree n (Some b))) → P b) → P c
+    by_case (inl same) above = subst P (same_class_equal q c same) here
+    by_case (inr there) above = by_base (base_of tree c) refl there above
+
 -- ---- methods
 
 abbrev pub is_named : MethodName → Signature → Method → Bool
@@ -187,9 +212,6 @@ module _ (tree : Tree) where
   abbrev EndsWith : ClassName → ClassName → Type 0
   EndsWith c q = (before : List ClassName) × (chain_of tree c ≡ before ++ chain_of tree q)
 
-  none_met : {A : Type 0} (p : ClassName → Bool) (n : ℕ) → IsTrue (list_any p (chain_within tree n None)) → A
-  none_met p n h = never (subst (λ cs. IsTrue (list_any p cs)) (none_chain tree n) h)
-
   -- what is in the chain of an end is in the whole chain
   in_whole : (p : ClassName → Bool) (c q : ClassName) → EndsWith c q → IsTrue (list_any p (chain_of tree q)) → IsTrue (list_any p (chain_of tree c))
   in_whole p c q (before, e) h = subst (λ cs. IsTrue (list_any p cs)) (sym e) (list_any-append p before (chain_of tree q) ∙ or_right _ _ h)
@@ -212,18 +234,10 @@ module _ (tree : Tree) where
 
   -- System.Object and System.String have no virtual method
   plain_has_none : (c : ClassName) (p : Method → Bool) (m : Method) → IsTrue (list_any (same_class c) (string_name ∷ object_name ∷ [])) → find p (methods_declared tree c) ≡ Some m → is_virtual m.kind ≡ false
-  plain_has_none c p m h e = by_string (either (same_class c string_name) (same_class c object_name || false) h)
+  plain_has_none c p m h e = by_plain (λ k. find p (methods_declared tree k) ≡ Some m → is_virtual m.kind ≡ false) (fails string_name refl) (fails object_name refl) c h e
     where
-      fails : (k : ClassName) → IsTrue (same_class c k) → list_any (λ (x : Method). is_virtual x.kind) (methods_declared tree k) ≡ false → is_virtual m.kind ≡ false
-      fails k same none = found_fails p (λ (x : Method). is_virtual x.kind) (methods_declared tree k) m (subst (λ z. find p (methods_declared tree z) ≡ Some m) (same_class_equal c k same) e) none
-
-      by_object : IsTrue (same_class c object_name) ⊎ IsTrue false → is_virtual m.kind ≡ false
-      by_object (inl same) = fails object_name same refl
-      by_object (inr lost) = never lost
-
-      by_string : IsTrue (same_class c string_name) ⊎ IsTrue (same_class c object_name || false) → is_virtual m.kind ≡ false
-      by_string (inl same) = fails string_name same refl
-      by_string (inr rest) = by_object (either (same_class c object_name) false rest)
+      fails : (k : ClassName) → list_any (λ (x : Method). is_virtual x.kind) (methods_declared tree k) ≡ false → find p (methods_declared tree k) ≡ Some m → is_virtual m.kind ≡ false
+      fails k none found = found_fails p (λ (x : Method). is_virtual x.kind) (methods_declared tree k) m found none
 
   -- so the type of a class with a virtual method in its chain is named by the class
   element_is_class : (owner c : ClassName) (p : Method → Bool) (m : Method) → IsTrue (list_any (same_class c) (chain_of tree owner)) → find p (methods_declared tree c) ≡ Some m → IsTrue (is_virtual m.kind) → element_of_class owner ≡ Class owner
@@ -261,33 +275,13 @@ module _ (tree : Tree) where
 
   module _ (legal : IsLegal tree) where
     -- the chain of a class ends with that of each of its classes
-    ends_within : (n : ℕ) (c q : ClassName) → IsTrue (list_any (same_class q) (chain_within tree n (Some c))) → EndsWith c q
-    ends_within zero c q h = never h
-    ends_within (suc n) c q h = by_case (either (same_class q c) (list_any (same_class q) (chain_within tree n (base_of tree c))) h) (λ b. ends_within n b q)
-      where
-        by_base : (o : Option ClassName) → base_of tree c ≡ o → IsTrue (list_any (same_class q) (chain_within tree n o)) → ((b : ClassName) → IsTrue (list_any (same_class q) (chain_within tree n (Some b))) → EndsWith b q) → EndsWith c q
-        by_base None e t further = none_met (same_class q) n t
-        by_base (Some b) e t further = let end = further b t in (c ∷ end.0, chain_of_base tree legal c b e ∙ ap (λ cs. c ∷ cs) end.1)
-
-        by_case : IsTrue (same_class q c) ⊎ IsTrue (list_any (same_class q) (chain_within tree n (base_of tree c))) → ((b : ClassName) → IsTrue (list_any (same_class q) (chain_within tree n (Some b))) → EndsWith b q) → EndsWith c q
-        by_case (inl here) further = ([], ap (chain_of tree) (sym (same_class_equal q c here)))
-        by_case (inr there) further = by_base (base_of tree c) refl there further
-
     ends_with : (c q : ClassName) → IsTrue (list_any (same_class q) (chain_of tree c)) → EndsWith c q
-    ends_with c q h = ends_within (longest_chain tree) c q h
+    ends_with c q = up_chain tree q (λ k. EndsWith k q) ([], refl) (λ k b e end. (k ∷ end.0, chain_of_base tree legal k b e ∙ ap (λ cs. k ∷ cs) end.1)) (longest_chain tree) c
 
     -- an interface begins each chain that it is in
     interface_first : (n : ℕ) (c i : ClassName) → is_interface tree i ≡ true → IsTrue (list_any (same_class i) (chain_within tree n (Some c))) → i ≡ c
-    interface_first zero c i h k = never k
-    interface_first (suc n) c i h k = by_case (either (same_class i c) (list_any (same_class i) (chain_within tree n (base_of tree c))) k) (λ b. interface_first n b i h)
-      where
-        by_base : (o : Option ClassName) → base_of tree c ≡ o → IsTrue (list_any (same_class i) (chain_within tree n o)) → ((b : ClassName) → IsTrue (list_any (same_class i) (chain_within tree n (Some b))) → i ≡ b) → i ≡ c
-        by_base None e t further = none_met (same_class i) n t
-        by_base (Some b) e t further = not_both (is_interface tree i) (subst (λ z. is_interface tree z ≡ false) (sym (further b t)) (base_is_class tree legal c b e)) h
-
-        by_case : IsTrue (same_class i c) ⊎ IsTrue (list_any (same_class i) (chain_within tree n (base_of tree c))) → ((b : ClassName) → IsTrue (list_any (same_class i) (chain_within tree n (Some b))) → i ≡ b) → i ≡ c
-        by_case (inl here) further = same_class_equal i c here
-        by_case (inr there) further = by_base (base_of tree c) refl there further
+    interface_first n c i h =
+        up_chain tree i (λ k. i ≡ k) refl (λ k b e same. not_both (is_interface tree i) (subst (λ z. is_interface tree z ≡ false) (sym same) (base_is_class tree legal k b e)) h) n c
 
     -- ---- the method that runs
 

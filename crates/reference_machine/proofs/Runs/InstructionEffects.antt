@@ -50,6 +50,15 @@ pub data Allowed (G : State → Type 0) (B : Type 0) (F : Fault → Type 0) : Ef
   raises : (x : Fault) → F x → Allowed G B F (Raises x)
   sticks : Allowed G B F Sticks
 
+-- where it blocks there is the reason, and where it raises a fault that is of the kind
+pub allowed_blocks : {G : State → Type 0} {B : Type 0} {F : Fault → Type 0} (e : Effect) → Allowed G B F e → e ≡ Blocks → B
+allowed_blocks Blocks (blocks reason) k = reason
+allowed_blocks _ a k = absurd cc
+
+pub allowed_raises : {G : State → Type 0} {B : Type 0} {F : Fault → Type 0} (e : Effect) (x : Fault) → Allowed G B F e → e ≡ Raises x → F x
+allowed_raises {F = F} (Raises y) x (raises _ h) k = let same : y ≡ x = cc in subst F same h
+allowed_raises _ x a k = absurd cc
+
 -- faults of any kind
 abbrev pub AnyFault : Fault → Type 0
 AnyFault x = Unit {0}
@@ -438,22 +447,6 @@ step_follows tree limits s t refused r s' e = by_thread (slice_get s.threads t) 
     by_thread None h = same h
     by_thread (Some thread) h = by_life thread (is_live_thread thread) h
 
-pub same_raised : (x y : Fault) → Raises x ≡ Raises y → x ≡ y
-same_raised x y e = cc
-
-abbrev pub RaisesNothing : Effect → Type 0
-RaisesNothing (Raises x) = ⊥
-RaisesNothing _ = Unit {0}
-
-pub no_raise : {A : Type 0} (e : Effect) (x : Fault) → e ≡ Raises x → RaisesNothing e → A
-no_raise {A} e x k h = absurd (subst RaisesNothing k h)
-
 -- the faults that an instruction raises are listed
 pub raised_is_listed : (here : StepContext) (s : State) (f : Frame) (below : List Frame) (i : Instruction) (x : Fault) → execute here s f below i ≡ Raises x → MayRaise here.tree i x
-raised_is_listed here s f below i x e = by_effect (execute here s f below i) (instruction_ok here s f below (follows_steps here s) i (λ a acts v rest stack w h. tt)) e
-  where
-    by_effect : (e : Effect) → Allowed (Follows s) (Unit {0}) (MayRaise here.tree i) e → e ≡ Raises x → MayRaise here.tree i x
-    by_effect (Raises y) (raises _ h) k = let P : Fault → Type 0 = λ z. MayRaise here.tree i z in subst P (same_raised y x k) h
-    by_effect (Goes fs s') a k = no_raise (Goes fs s') x k tt
-    by_effect Blocks a k = no_raise Blocks x k tt
-    by_effect Sticks a k = no_raise Sticks x k tt
+raised_is_listed here s f below i x e = allowed_raises {G = Follows s} {B = Unit {0}} {F = MayRaise here.tree i} (execute here s f below i) x (instruction_ok here s f below (follows_steps here s) i (λ a acts v rest stack w h. tt)) e

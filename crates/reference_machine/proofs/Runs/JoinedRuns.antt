@@ -44,18 +44,31 @@ module _ (r : Report) where
   after_stuck all (SticksAfter reports) e go = go reports refl (sym (same_stuck (r ∷ reports) all e))
 
 module _ (tree : Tree) (limits : Limits) where
+  -- the first step of a run, and the run from there
+  pub record IsFirst (s : State) (q : StepRequest) (qs : List StepRequest) (reports : List Report) (t : State) : Type 0 where
+    pub report : Report
+    pub after : State
+    pub later : List Report
+    pub answers : step tree limits s q.0 q.1 ≡ Answers report after
+    pub are : reports ≡ report ∷ later
+    pub runs : run tree limits after qs ≡ RunsTo later t
+
+  pub first_of : (s : State) (q : StepRequest) (qs : List StepRequest) (reports : List Report) (t : State) → run tree limits s (q ∷ qs) ≡ RunsTo reports t → IsFirst s q qs reports t
+  first_of s q qs reports t e = by_outcome (step tree limits s q.0 q.1) refl e
+    where
+      by_outcome : (o : StepOutcome) → step tree limits s q.0 q.1 ≡ o → followed_by o (λ x. run tree limits x qs) ≡ RunsTo reports t → IsFirst s q qs reports t
+      by_outcome Stuck is k = clash [] reports t k
+      by_outcome (Answers r u) is k = after_run r reports t (run tree limits u qs) k (λ rs k' e'. record { report = r; after = u; later = rs; answers = is; are = e'; runs = k' })
+
   module _ (more : List StepRequest) (end : List Report → Run) (grows : (r : Report) (reports : List Report) → preceded_by r (end reports) ≡ end (r ∷ reports)) where
     -- a run that continues as another from the state that it reached
     goes_after : (first : List StepRequest) (s t : State) (reports : List Report) → run tree limits s first ≡ RunsTo reports t → run tree limits t more ≡ end [] → run tree limits s (first ++ more) ≡ end reports
     goes_after [] s t reports e h =
         let P : State → Type 0 = λ x. run tree limits x more ≡ end [] in
         subst P (sym (same_state [] reports s t e)) h ∙ ap end (same_reports [] reports s t e)
-    goes_after (q ∷ qs) s t reports e h = by_outcome (step tree limits s q.0 q.1) e (λ u rs k. goes_after qs u t rs k h)
-      where
-        by_outcome : (o : StepOutcome) → followed_by o (λ u. run tree limits u qs) ≡ RunsTo reports t → ((u : State) (rs : List Report) → run tree limits u qs ≡ RunsTo rs t → run tree limits u (qs ++ more) ≡ end rs) →
-            followed_by o (λ u. run tree limits u (qs ++ more)) ≡ end reports
-        by_outcome Stuck k later = clash [] reports t k
-        by_outcome (Answers r u) k later = after_run r reports t (run tree limits u qs) k (λ rs k' e'. ap (preceded_by r) (later u rs k') ∙ grows r rs ∙ ap end (sym e'))
+    goes_after (q ∷ qs) s t reports e h =
+        let x = first_of s q qs reports t e in
+        ap (λ o. followed_by o (λ u. run tree limits u (qs ++ more))) x.answers ∙ ap (preceded_by x.report) (goes_after qs x.after t x.later x.runs h) ∙ grows x.report x.later ∙ ap end (sym x.are)
 
   -- one run, and then another
   pub runs_on : (first more : List StepRequest) (s t u : State) (reports later : List Report) → run tree limits s first ≡ RunsTo reports t → run tree limits t more ≡ RunsTo later u → run tree limits s (first ++ more) ≡ RunsTo (reports ++ later) u
@@ -77,27 +90,9 @@ module _ (tree : Tree) (limits : Limits) where
   -- a run takes nothing back
   pub run_follows : (requests : List StepRequest) (s t : State) (reports : List Report) → run tree limits s requests ≡ RunsTo reports t → Follows s t
   run_follows [] s t reports e = let P : State → Type 0 = λ x. Follows s x in subst P (same_state [] reports s t e) (follows_itself s)
-  run_follows (q ∷ qs) s t reports e = by_outcome (step tree limits s q.0 q.1) refl e (λ u rs k. run_follows qs u t rs k)
-    where
-      by_outcome : (o : StepOutcome) → step tree limits s q.0 q.1 ≡ o → followed_by o (λ u. run tree limits u qs) ≡ RunsTo reports t → ((u : State) (rs : List Report) → run tree limits u qs ≡ RunsTo rs t → Follows u t) → Follows s t
-      by_outcome Stuck h k later = clash [] reports t k
-      by_outcome (Answers r u) h k later = after_run r reports t (run tree limits u qs) k (λ rs k' e'. follows_more s u t (step_follows tree limits s q.0 q.1 r u h) (later u rs k'))
-
-  -- the first step of a run, and the run from there
-  pub record IsFirst (s : State) (q : StepRequest) (qs : List StepRequest) (reports : List Report) (t : State) : Type 0 where
-    pub report : Report
-    pub after : State
-    pub later : List Report
-    pub answers : step tree limits s q.0 q.1 ≡ Answers report after
-    pub are : reports ≡ report ∷ later
-    pub runs : run tree limits after qs ≡ RunsTo later t
-
-  pub first_of : (s : State) (q : StepRequest) (qs : List StepRequest) (reports : List Report) (t : State) → run tree limits s (q ∷ qs) ≡ RunsTo reports t → IsFirst s q qs reports t
-  first_of s q qs reports t e = by_outcome (step tree limits s q.0 q.1) refl e
-    where
-      by_outcome : (o : StepOutcome) → step tree limits s q.0 q.1 ≡ o → followed_by o (λ x. run tree limits x qs) ≡ RunsTo reports t → IsFirst s q qs reports t
-      by_outcome Stuck is k = clash [] reports t k
-      by_outcome (Answers r u) is k = after_run r reports t (run tree limits u qs) k (λ rs k' e'. record { report = r; after = u; later = rs; answers = is; are = e'; runs = k' })
+  run_follows (q ∷ qs) s t reports e =
+      let x = first_of s q qs reports t e in
+      follows_more s x.after t (step_follows tree limits s q.0 q.1 x.report x.after x.answers) (run_follows qs x.after t x.later x.runs)
 
 -- ---- types stay
 

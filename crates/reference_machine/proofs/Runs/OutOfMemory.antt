@@ -12,12 +12,12 @@ use Rattle.cil_model.specs.Chains.{find_method}
 use Rattle.cil_model.proofs.SameLaws.{never}
 use Rattle.reference_machine.specs.Arithmetic.{as_index}
 use Rattle.reference_machine.specs.BuiltIn.{Action, Enter, Exit, Start, Join}
-use Rattle.reference_machine.specs.Effects.{StepContext, Effect, Goes, Blocks, Raises, Sticks}
+use Rattle.reference_machine.specs.Effects.{StepContext, Effect, Raises}
 use Rattle.reference_machine.specs.Growth.{Follows}
 use Rattle.reference_machine.specs.Faults.{faults_of_operation, faults_of, faults_of_action, MayRaise, itself, member}
 use Rattle.reference_machine.specs.States.{Frame, State}
 use Rattle.reference_machine.specs.Steps.{execute}
-use Rattle.reference_machine.proofs.Runs.InstructionEffects.{Allowed, raises, given_ok, one_ok, array_ok, operands_ok, construct_ok, follows_steps, raised_is_listed, same_raised, no_raise}
+use Rattle.reference_machine.proofs.Runs.InstructionEffects.{Allowed, given_ok, one_ok, array_ok, operands_ok, construct_ok, follows_steps, raised_is_listed, allowed_raises}
 
 -- whether a fault is out of memory
 abbrev is_memory : Fault → Bool
@@ -58,10 +58,7 @@ OfRefusal here x = x ≡ OutOfMemory → here.is_refused ≡ true
 
 module _ (here : StepContext) (s : State) (f : Frame) (below : List Frame) where
   of_effect : (e : Effect) → Allowed (Follows s) (Unit {0}) (OfRefusal here) e → e ≡ Raises OutOfMemory → here.is_refused ≡ true
-  of_effect (Raises x) (raises _ h) k = h (same_raised x OutOfMemory k)
-  of_effect (Goes fs s') a k = no_raise (Goes fs s') OutOfMemory k tt
-  of_effect Blocks a k = no_raise Blocks OutOfMemory k tt
-  of_effect Sticks a k = no_raise Sticks OutOfMemory k tt
+  of_effect e a k = allowed_raises e OutOfMemory a k refl
 
   -- by what is listed
   listed : (i : Instruction) → Contains (faults_of i) OutOfMemory → execute here s f below i ≡ Raises OutOfMemory → here.is_refused ≡ true
