@@ -11,7 +11,7 @@ use Rattle.object_memory.specs.declared.addresses.Addr.{Addr}
 use Rattle.object_memory.specs.declared.addresses.TheConstants.{FIRST_LITERAL}
 use Rattle.object_memory.specs.declared.values.Value.{Value}
 use Rattle.object_memory.specs.declared.values.Value.TheVariants.{Ref}
-use Rattle.object_memory.specs.Cells.{Cell, cell_from, cell_in}
+use Rattle.object_memory.specs.Cells.{Cell, Cells, cell_from, cell_in}
 use Rattle.object_memory.specs.Spaces.{Spaces, AreSpaces, cell_at, is_old}
 use Rattle.object_memory.proofs.TwoSpaces.TwoBlocks.{either, new_is_cell, not_new, not_old, old_is_cell, are_distinct}
 use Rattle.phase_handshake.specs.Handshakes.{Handshakes}
@@ -22,6 +22,7 @@ use Rattle.collector.specs.Soundness.{AreCopied, IsSoundHeap}
 use Rattle.collector.specs.Holds.{AnyLive, Hold, MarkedOnly, NewOnly, hold_of, is_flipping, is_marking, may_hold, passes, static_may_hold}
 use Rattle.collector.specs.declared.progress.Progress.{Progress}
 pub use Rattle.cil_model.proofs.SameLaws.{never}
+use Rattle.std.proofs.lemmas.Option.{same_Some}
 
 -- ---- what passes a test passes a weaker one
 
@@ -46,6 +47,10 @@ marked_there (Some c) h = (c, refl, h)
 -- addresses of one number are one
 pub same_address : (a b : Addr) → a.number ≡ b.number → a ≡ b
 same_address a b e = ap (λ (n : ℕ). record { number = n }) e
+
+-- and one cell lies there
+pub same_cell : (s : Cells) (a b : Addr) (c d : Cell) → a.number ≡ b.number → cell_in s a ≡ Some c → cell_in s b ≡ Some d → c ≡ d
+same_cell s a b c d e lies there = same_Some c d (sym lies ∙ ap (cell_in s) (same_address a b e) ∙ there)
 
 module _ (m : Spaces) (a : Addr) where
   -- the cell of a marked address, an old one and a new one

@@ -1,6 +1,6 @@
 -- Births keep a heap sound, in each pair of phases that a thread and the collector may be in.
 use Rattle.std.proofs.Common.{◌≡◌, ◌≢◌, ◌⊎◌, inl, inr, ℕ, ◌+◌, ◌≤◌, Bool, true, false, refl, sym, ap, subst, ◌∙◌, arith}
-use Rattle.std.specs.Prelude.{◌&&◌, ◌||◌, if◌then◌else◌, is_some, nat_le, not, Option, Some, None}
+use Rattle.std.specs.Prelude.{◌&&◌, if◌then◌else◌, is_some, nat_le, not, Option, Some, None}
 use Rattle.std.proofs.lemmas.Bool.{or_left, or_right}
 use Rattle.std.proofs.lemmas.Bool.Decides.{nat_tests}
 use Rattle.std.proofs.lemmas.Option.{none-some, same_Some}
@@ -23,34 +23,19 @@ use Rattle.object_memory.proofs.Births.{born-new_last, born-old_last}
 use Rattle.collector.specs.Phases.{HasLooked, is_before_copies, is_live, is_marked_address, is_marked_cell, is_marked_old, is_new, is_of_cycle, no_progress}
 use Rattle.collector.specs.Holds.{AnyLive, HasNotBegun, Hold, IsOnTime, MarkedOnly, NewOnly, is_flipping, is_marking, may_hold, passes}
 use Rattle.object_memory.specs.Spaces.{is_old}
-use Rattle.collector.specs.References.{is_permanent}
 use Rattle.collector.specs.declared.progress.Progress.{Progress}
 use Rattle.collector.proofs.Addresses.GrowingBlocks.{TestsStay}
 use Rattle.collector.proofs.Births.HeapsAfterBirths.{Suits, born_flags, born_forward, born_heap, born_not_begun, born_stays}
 use Rattle.collector.proofs.Births.NewCells.{IsBirth, birth_in}
 use Rattle.cil_model.proofs.SameLaws.{never}
 use Rattle.collector.proofs.Addresses.Tests.{marking_is_mark}
+use Rattle.collector.proofs.HeapStores.ReachedCopies.{not_after}
 
 -- ---- what a thread may hold of what it bore
 
 -- an object of the new block where both the thread and the collector are past the flip of frames, else any live one
 abbrev pub birth_hold : (own posted_phase : Phase) → Hold
 birth_hold own posted_phase = if is_flipping own && is_flipping posted_phase then NewOnly else AnyLive
-
--- ---- what is live
-
--- an old object, a marked one or a new one is live where these are
-seen_old : (m : Spaces) (a : Addr) → is_old m a ≡ true → (is_permanent a || is_old m a) ≡ true
-seen_old m a e = or_right (is_permanent a) (is_old m a) e
-
-seen_marked : (m : Spaces) (a : Addr) → is_marked_old m a ≡ true → (is_permanent a || is_marked_old m a) ≡ true
-seen_marked m a e = or_right (is_permanent a) (is_marked_old m a) e
-
-seen_new : (m : Spaces) (a : Addr) → is_new m a ≡ true → (is_permanent a || is_new m a) ≡ true
-seen_new m a e = or_right (is_permanent a) (is_new m a) e
-
-seen_either : (m : Spaces) (a : Addr) → is_marked_old m a ≡ true → (is_permanent a || (is_marked_old m a || is_new m a)) ≡ true
-seen_either m a e = or_right (is_permanent a) (is_marked_old m a || is_new m a) (or_left (is_marked_old m a) (is_new m a) e)
 
 module _ (m : Spaces) (h : AreSpaces m) (k : Kind) (n : ℕ) (p : Progress) where
   -- ---- where it lies
@@ -117,14 +102,14 @@ module _ (m : Spaces) (h : AreSpaces m) (k : Kind) (n : ℕ) (p : Progress) wher
 
   -- a thread that has acknowledged the posted phase
   pub on_time : (own : Phase) → Suits (birth_hold own own) own p m k n (birth_space_of own (is_of_cycle own))
-  on_time Idle = in_old AnyLive Idle (seen_old (give_birth InOld m k n) (next_address m.old) old_there)
-  on_time Mark = listed AnyLive Mark refl (λ e. e) (seen_old (give_birth Listed m k n) (next_address m.old) listed_there)
-  on_time Allocate = in_both AnyLive Allocate refl refl (λ is. absurd cc) (seen_marked (give_birth InBoth m k n) (next_address m.old) both_marked)
-  on_time Copy = in_both AnyLive Copy refl refl (λ is. absurd cc) (seen_marked (give_birth InBoth m k n) (next_address m.old) both_marked)
-  on_time PreFlip = in_both AnyLive PreFlip refl refl (λ is. absurd cc) (seen_either (give_birth InBoth m k n) (next_address m.old) both_marked)
-  on_time HeapFlip = in_both AnyLive HeapFlip refl refl (λ is. absurd cc) (seen_either (give_birth InBoth m k n) (next_address m.old) both_marked)
-  on_time ThreadFlip = in_new NewOnly ThreadFlip refl refl (λ e. elim e [ inl is ↦ absurd cc | inr is ↦ absurd cc ]) (seen_new (give_birth InNew m k n) (next_address m.new) new_there)
-  on_time Reclaim = in_new NewOnly Reclaim refl refl (λ e. elim e [ inl is ↦ absurd cc | inr is ↦ absurd cc ]) (seen_new (give_birth InNew m k n) (next_address m.new) new_there)
+  on_time Idle = in_old AnyLive Idle (or_right _ _ old_there)
+  on_time Mark = listed AnyLive Mark refl (λ e. e) (or_right _ _ listed_there)
+  on_time Allocate = in_both AnyLive Allocate refl refl (λ is. absurd cc) (or_right _ _ both_marked)
+  on_time Copy = in_both AnyLive Copy refl refl (λ is. absurd cc) (or_right _ _ both_marked)
+  on_time PreFlip = in_both AnyLive PreFlip refl refl (λ is. absurd cc) (or_right _ _ (or_left _ _ both_marked))
+  on_time HeapFlip = in_both AnyLive HeapFlip refl refl (λ is. absurd cc) (or_right _ _ (or_left _ _ both_marked))
+  on_time ThreadFlip = in_new NewOnly ThreadFlip refl refl (λ e. elim e [ inl is ↦ absurd cc | inr is ↦ absurd cc ]) (or_right _ _ new_there)
+  on_time Reclaim = in_new NewOnly Reclaim refl refl (λ e. elim e [ inl is ↦ absurd cc | inr is ↦ absurd cc ]) (or_right _ _ new_there)
 
   -- nothing of the old block was looked at
   not_looked : p ≡ no_progress → HasLooked Allocate p m (next_address m.old) → ⊥
@@ -132,14 +117,14 @@ module _ (m : Spaces) (h : AreSpaces m) (k : Kind) (n : ℕ) (p : Progress) wher
 
   -- a thread that is late
   pub late : (own : Phase) → p ≡ no_progress → Suits (birth_hold own (phase_after own)) (phase_after own) p m k n (birth_space_of own (is_of_cycle (phase_after own)))
-  late Idle none = in_old AnyLive Mark (seen_old (give_birth InOld m k n) (next_address m.old) old_there)
-  late Mark none = listed AnyLive Allocate refl (not_looked none) (seen_marked (give_birth Listed m k n) (next_address m.old) listed_marked)
-  late Allocate none = in_both AnyLive Copy refl refl (λ is. absurd cc) (seen_marked (give_birth InBoth m k n) (next_address m.old) both_marked)
-  late Copy none = in_both AnyLive PreFlip refl refl (λ is. absurd cc) (seen_either (give_birth InBoth m k n) (next_address m.old) both_marked)
-  late PreFlip none = in_both AnyLive HeapFlip refl refl (λ is. absurd cc) (seen_either (give_birth InBoth m k n) (next_address m.old) both_marked)
-  late HeapFlip none = in_both AnyLive ThreadFlip refl refl (λ is. absurd cc) (seen_either (give_birth InBoth m k n) (next_address m.old) both_marked)
-  late ThreadFlip none = in_new NewOnly Reclaim refl refl (λ e. elim e [ inl is ↦ absurd cc | inr is ↦ absurd cc ]) (seen_new (give_birth InNew m k n) (next_address m.new) new_there)
-  late Reclaim none = in_old AnyLive Idle (seen_old (give_birth InOld m k n) (next_address m.old) old_there)
+  late Idle none = in_old AnyLive Mark (or_right _ _ old_there)
+  late Mark none = listed AnyLive Allocate refl (not_looked none) (or_right _ _ listed_marked)
+  late Allocate none = in_both AnyLive Copy refl refl (λ is. absurd cc) (or_right _ _ both_marked)
+  late Copy none = in_both AnyLive PreFlip refl refl (λ is. absurd cc) (or_right _ _ (or_left _ _ both_marked))
+  late PreFlip none = in_both AnyLive HeapFlip refl refl (λ is. absurd cc) (or_right _ _ (or_left _ _ both_marked))
+  late HeapFlip none = in_both AnyLive ThreadFlip refl refl (λ is. absurd cc) (or_right _ _ (or_left _ _ both_marked))
+  late ThreadFlip none = in_new NewOnly Reclaim refl refl (λ e. elim e [ inl is ↦ absurd cc | inr is ↦ absurd cc ]) (or_right _ _ new_there)
+  late Reclaim none = in_old AnyLive Idle (or_right _ _ old_there)
 
 -- ---- near phases
 
@@ -150,11 +135,6 @@ IsNear own posted_phase = (own ≡ posted_phase) ⊎ (phase_after own ≡ posted
 pub near_of_close : (h : Handshakes) (s : Seat) → IsClose h s → IsNear s.phase h.posted_phase
 near_of_close h s (inl is) = inl is
 near_of_close h s (inr before) = inr before.0
-
--- no phase comes after itself
-pub phase_continues : (own : Phase) → phase_after own ≡ own → ⊥
-phase_continues Idle e = absurd cc
-phase_continues _ e = absurd cc
 
 -- ---- births
 
@@ -216,7 +196,7 @@ module _ (own posted_phase : Phase) (near : IsNear own posted_phase) where
   suits_near : (m : Spaces) → AreSpaces m → (k : Kind) (n : ℕ) (p : Progress) → (own ≢ posted_phase → p ≡ no_progress) → Suits (birth_hold own posted_phase) posted_phase p m k n (birth_space_of own (is_of_cycle posted_phase))
   suits_near m h k n p none = elim near [
     | inl is ↦ subst (λ x. Suits (birth_hold own x) x p m k n (birth_space_of own (is_of_cycle x))) is (on_time m h k n p own)
-    | inr is ↦ subst (λ x. Suits (birth_hold own x) x p m k n (birth_space_of own (is_of_cycle x))) is (late m h k n p own (none (λ same. phase_continues own (is ∙ sym same))))
+    | inr is ↦ subst (λ x. Suits (birth_hold own x) x p m k n (birth_space_of own (is_of_cycle x))) is (late m h k n p own (none (λ same. not_after own (same ∙ sym is))))
   ]
 
 module _ (tree : Tree) (own posted_phase : Phase) (near : IsNear own posted_phase) (has_round : Bool) (words : ℕ) (p : Progress) (o : Objects)
@@ -267,7 +247,7 @@ module _ (tree : Tree) (own posted_phase : Phase) (near : IsNear own posted_phas
     -- in Mark it is marked
     pub birth_marked : own ≡ Mark → is_marked_address o'.spaces a ≡ true
     birth_marked is =
-        let here = seen_marked (give_birth Listed o.spaces k n) (next_address o.spaces.old) (listed_marked o.spaces sound.blocks.spaces k n p) in
+        let here : is_marked_address (give_birth Listed o.spaces k n) (next_address o.spaces.old) ≡ true = or_right _ _ (listed_marked o.spaces sound.blocks.spaces k n p) in
         let in_space = subst (λ x. is_marked_address (give_birth (birth_space_of x o.spaces.is_open) o.spaces k n) (address_at (birth_space_of x o.spaces.is_open) o.spaces) ≡ true) (sym is) here in
         subst (λ (x : Objects). is_marked_address x.spaces a ≡ true) g.1 (subst (λ x. is_marked_address (after own o k n).spaces x ≡ true) g.2 in_space)
 
@@ -305,7 +285,7 @@ module _ (tree : Tree) (h : Handshakes) (seat : Seat) (close : IsClose h seat) (
   in_round : is_marking h.posted_phase ≡ true → h.has_round ≡ true → is_marked_address o'.spaces a ≡ true
   in_round marking round = elim near [
     | inl is ↦ birth_marked tree seat.phase h.posted_phase near h.has_round words p o time sound k n o' a e (is ∙ marking_is_mark h.posted_phase marking)
-    | inr is ↦ never (sym ((time (λ same. phase_continues seat.phase (is ∙ sym same))).no_round (marking_is_mark h.posted_phase marking)) ∙ round)
+    | inr is ↦ never (sym ((time (λ same. not_after seat.phase (same ∙ sym is))).no_round (marking_is_mark h.posted_phase marking)) ∙ round)
   ]
 
   -- by what it has acknowledged and answered

@@ -22,7 +22,7 @@ use Rattle.collector.specs.declared.progress.Progress.{Progress}
 use Rattle.collector.proofs.BlockWalks.ChangedBlocks.{IsOffset-change}
 use Rattle.collector.proofs.BlockWalks.CollectorOffsets.{HasCursor-begun}
 use Rattle.collector.proofs.Copies.CopyTests.{new_stays, some_is_other}
-use Rattle.collector.proofs.Addresses.Tests.{same_address, slots_weaken}
+use Rattle.collector.proofs.Addresses.Tests.{same_address, slots_weaken, same_cell}
 use Rattle.collector.proofs.Addresses.Disjunctions.{or_more}
 use Rattle.collector.proofs.Addresses.TagChanges.{read_alike}
 use Rattle.collector.proofs.Births.HeapsAfterBirths.{zeros_pass}
@@ -64,8 +64,7 @@ module _ (tree : Tree) (has_round : Bool) (words : ℕ) (p : Progress) (m : Spac
         elim r.2 [
           | own same equal ↦ (
               let here = same_address x a same in
-              let there : cell_in m.old a ≡ Some r.0 = subst (λ y. cell_in m.old y ≡ Some r.0) here r.1 in
-              let is : r.0 ≡ c = same_Some r.0 c (sym there ∙ lies) in
+              let is : r.0 ≡ c = same_cell m.old x a r.0 c same r.1 lies in
               copied here (equal ∙ ap (set_other b) is))
           | still ne equal ↦ kept (r.1 ∙ ap Some (sym equal))
         ]
@@ -93,8 +92,7 @@ module _ (tree : Tree) (has_round : Bool) (words : ℕ) (p : Progress) (m : Spac
             let now = before_in (set_other b) (λ z. refl) m.old a x r.0 r.1 in
             elim now.2 [
               | own same equal ↦ (
-                  let there : cell_in m.old a ≡ Some r.0 = subst (λ z. cell_in m.old z ≡ Some r.0) (same_address x a same) r.1 in
-                  let is : r.0 ≡ c = same_Some r.0 c (sym there ∙ lies) in
+                  let is : r.0 ≡ c = same_cell m.old x a r.0 c same r.1 lies in
                   let wrong : Some y ≡ None = sym r.2 ∙ ap (λ (z : Cell). z.other) is ∙ no_copy in
                   absurd cc)
               | still ne equal ↦ (now.0, now.1, ap (λ (z : Cell). z.other) equal ∙ r.2)
@@ -177,8 +175,7 @@ module _ (tree : Tree) (has_round : Bool) (words : ℕ) (p : Progress) (m : Spac
         by_case : (x.number < m.old.start + p.cursor) ⊎ (x.number ≡ m.old.start + p.cursor) → d.other ≢ None
         by_case (inl before) = sound.copies.shells x d at dark before
         by_case (inr same) =
-            let there : cell_in m.old (address_after_cell m.old p.cursor) ≡ Some d = subst (λ z. cell_in m.old z ≡ Some d) (same_address x (address_after_cell m.old p.cursor) same) at in
-            let is : c ≡ d = same_Some c d (sym lies ∙ there) in
+            let is : c ≡ d = same_cell m.old (address_after_cell m.old p.cursor) x c d (sym same) lies at in
             subst (λ (z : Cell). z.other ≢ None) is (done (ap (λ (z : Cell). z.marked) is ∙ dark))
 
     next_offset : IsOffset m.old (m.old.start + next.cursor)

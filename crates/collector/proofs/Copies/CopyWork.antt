@@ -31,7 +31,7 @@ use Rattle.collector.proofs.Copies.CopiedWords.{are_copies, filled, filled_alike
 use Rattle.collector.proofs.Addresses.ObjectsInHeaps.{word_decoded}
 use Rattle.collector.proofs.Copies.VisibleCopies.{forward_word_is_new}
 use Rattle.collector.proofs.BlockWalks.CollectorOffsets.{HasCursor-begun}
-use Rattle.collector.proofs.Addresses.Tests.{same_address, slots_weaken, some_there}
+use Rattle.collector.proofs.Addresses.Tests.{same_address, slots_weaken, some_there, same_cell}
 use Rattle.collector.proofs.Addresses.Disjunctions.{or_more}
 use Rattle.collector.proofs.PhaseChanges.LaterPhases.{AreBlocks-kept, IsSoundHeap-on}
 
@@ -196,8 +196,7 @@ module _ (tree : Tree) (has_round : Bool) (words : ℕ) (p : Progress) (m : Spac
           elim r.2 [
             | own same equal ↦ (
                 let here = same_address y b same in
-                let at_same : cell_in m.new b ≡ Some r.0 = subst (λ z. cell_in m.new z ≡ Some r.0) here r.1 in
-                let old : r.0 ≡ to.0 = same_Some r.0 to.0 (sym at_same ∙ to.1) in
+                let old : r.0 ≡ to.0 = same_cell m.new y b r.0 to.0 same r.1 to.1 in
                 changed here (equal ∙ ap f old))
             | still ne equal ↦ kept ne (r.1 ∙ ap Some (sym equal))
           ]
@@ -239,8 +238,7 @@ module _ (tree : Tree) (has_round : Bool) (words : ℕ) (p : Progress) (m : Spac
           else_words word short (inl done) = h.words word (inl (before_copied (record u { stage = Stored }) x e word there (some_is_other e.other y some) done))
           else_words word short (inr s) =
               let here : x.number ≡ at = s.here ∙ here_is in
-              let at_same : cell_in m.old a ≡ Some e = subst (λ z. cell_in m.old z ≡ Some e) (same_address x a here) there in
-              let equal : e ≡ c = same_Some e c (sym at_same ∙ lies) in
+              let equal : e ≡ c = same_cell m.old x a e c here there lies in
               let one : y ≡ b = same_Some y b (sym some ∙ ap (λ (z : Cell). z.other) equal ∙ other) in
               absurd (ne (ap (λ (z : Addr). z.number) (sym one)))
 
@@ -253,8 +251,7 @@ module _ (tree : Tree) (has_round : Bool) (words : ℕ) (p : Progress) (m : Spac
           by_case : (r : (d : Cell) × (cell_in m.new y ≡ Some d) × AreCopies tree Copy p m x e d) (d : Cell) → cell_in after.new y ≡ Some d → WasNew y d
               → (d : Cell) × (cell_in after.new y ≡ Some d) × AreCopies tree Copy stored_at after x e d
           by_case r d now (changed here equal) =
-              let at_same : cell_in m.new b ≡ Some r.0 = subst (λ z. cell_in m.new z ≡ Some r.0) here r.1 in
-              let same : r.0 ≡ to.0 = same_Some r.0 to.0 (sym at_same ∙ to.1) in
+              let same : r.0 ≡ to.0 = same_cell m.new y b r.0 to.0 (ap (λ (z : Addr). z.number) here) r.1 to.1 in
               let mine : r.0.other ≡ Some x = r.2.back (inl (λ wrong. absurd cc)) in
               let this : to.0.other ≡ Some a = to.2.back (inl (λ wrong. absurd cc)) in
               let one : x ≡ a = same_Some x a (sym mine ∙ ap (λ (z : Cell). z.other) same ∙ this) in
@@ -350,8 +347,7 @@ module _ (tree : Tree) (has_round : Bool) (words : ℕ) (p : Progress) (m : Spac
         by_case : (x.number < at) ⊎ (x.number ≡ at) → HasCopied Copy p m x word ⊎ ((x.number ≡ at) × (word ≡ k))
         by_case (inl under) = inl (inl (earlier x e there some under))
         by_case (inr same) =
-            let at_same : cell_in m.old a ≡ Some e = subst (λ z. cell_in m.old z ≡ Some e) (same_address x a same) there in
-            let equal : e ≡ c = same_Some e c (sym at_same ∙ lies) in
+            let equal : e ≡ c = same_cell m.old x a e c same there lies in
             let long = ap (λ (z : Cell). length z.slots) equal in
             here_by x word same (let all : length c.slots ≤ k = grind (arith, nat_tests) in omega (arith, short, long, all))
     before false test x e word there some short (inr (same, less)) = absurd (omega (arith, less))
@@ -391,8 +387,7 @@ module _ (tree : Tree) (has_round : Bool) (words : ℕ) (p : Progress) (m : Spac
       -- the word is in the copy
       word_is_in : (x : Addr) (e : Cell) (word : ℕ) → cell_in m.old x ≡ Some e → x.number ≡ at → word ≡ k → IsInCopy Copy p m x e word
       word_is_in x e word there same next =
-          let at_same : cell_in m.old a ≡ Some e = subst (λ z. cell_in m.old z ≡ Some e) (same_address x a same) there in
-          let equal : e ≡ c = same_Some e c (sym at_same ∙ lies) in
+          let equal : e ≡ c = same_cell m.old x a e c same there lies in
           inr (record {
             copying = refl;
             here = same ∙ (begun two_spent).0;

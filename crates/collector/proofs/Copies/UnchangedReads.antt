@@ -1,15 +1,14 @@
 -- What the steps of Allocate and Copy leave as it is: all that is read through old addresses, and through new ones all but the word that is copied.
 use Rattle.std.proofs.Common.{◌≡◌, ◌⊎◌, inl, inr, ℕ, Bool, true, refl, sym, ap, subst, ◌∙◌}
 use Rattle.std.specs.Prelude.{◌||◌, Some, None, unwrap_or}
-use Rattle.std.proofs.lemmas.Option.{same_Some}
 use Rattle.cil_model.specs.declared.phases.Phase.TheVariants.{Allocate, Copy}
 use Rattle.cil_model.specs.declared.trees.Tree.{Tree}
 use Rattle.object_memory.specs.declared.addresses.Addr.{Addr}
 use Rattle.object_memory.specs.Cells.{Cell, Cells, next_address, cell_in}
-use Rattle.object_memory.specs.Spaces.{Spaces, forward, other_of, set_other, shell_of, with_shell}
+use Rattle.object_memory.specs.Spaces.{Spaces, change_at, forward, other_of, set_other, shell_of, with_shell}
 use Rattle.object_memory.specs.Objects.{Objects}
 use Rattle.object_memory.proofs.Blocks.{unchanged_in}
-use Rattle.object_memory.proofs.TwoSpaces.TwoBlocks.{own, still, after_in, before_in, not_old}
+use Rattle.object_memory.proofs.TwoSpaces.TwoBlocks.{IsAfter, own, still, after_in, before_in, not_old}
 use Rattle.object_memory.proofs.TwoSpaces.TwoCopies.{shell-kept_new, shell-was_new}
 use Rattle.collector.specs.References.{is_permanent}
 use Rattle.collector.specs.Phases.{is_live, is_marked_cell, is_marked_old}
@@ -20,7 +19,7 @@ use Rattle.collector.specs.declared.progress.Progress.{Progress}
 use Rattle.collector.proofs.Copies.CopiedWords.{filled, filled_size}
 use Rattle.collector.proofs.Copies.AllocateWork.{looked_cases}
 use Rattle.collector.proofs.Copies.CopyWork.{IsStep, copied_cases, none_stored, one_stored}
-use Rattle.collector.proofs.Addresses.Tests.{same_address}
+use Rattle.collector.proofs.Addresses.Tests.{same_address, same_cell}
 use Rattle.collector.proofs.Addresses.TagChanges.{read_alike}
 
 -- an object shows what it showed, and may have got another copy
@@ -39,21 +38,11 @@ pub record IsElseStill (o n : Objects) : Type 0 where
   pub is_open : n.spaces.is_open ≡ o.spaces.is_open
 
 same_still : (c d : Cell) → d ≡ c → IsStill c d
-same_still c d e = record {
-  kind = ap (λ (x : Cell). x.kind) e;
-  slots = ap (λ (x : Cell). x.slots) e;
-  marked = ap (λ (x : Cell). x.marked) e;
-  monitor = ap (λ (x : Cell). x.monitor) e;
-  other = inr (ap (λ (x : Cell). x.other) e);
-}
+same_still c d e = subst (IsStill c) (sym e) (record { kind = refl; slots = refl; marked = refl; monitor = refl; other = inr refl })
 
-same_else_still : (o n : Objects) → n ≡ o → IsElseStill o n
-same_else_still o n e = record {
-  literals = ap (λ (x : Objects). x.literals) e;
-  grey = ap (λ (x : Objects). x.spaces.grey) e;
-  has_marked = ap (λ (x : Objects). x.spaces.has_marked) e;
-  is_open = ap (λ (x : Objects). x.spaces.is_open) e;
-}
+-- where objects differ in their cells alone, all else stays
+else_still : (o n : Objects) (m : Spaces) → m.grey ≡ o.spaces.grey → m.has_marked ≡ o.spaces.has_marked → m.is_open ≡ o.spaces.is_open → n ≡ record o { spaces = m } → IsElseStill o n
+else_still o n m grey has_marked is_open e = subst (IsElseStill o) (sym e) (record { literals = refl; grey = grey; has_marked = has_marked; is_open = is_open })
 
 -- ---- a copy is made
 
@@ -63,15 +52,8 @@ module _ (m : Spaces) (a : Addr) (c : Cell) (lies : cell_in m.old a ≡ Some c) 
 
   shelled : (x : Addr) (e d : Cell) → cell_in m.old x ≡ Some e → x.number ≡ a.number → d ≡ set_other b e → IsStill e d
   shelled x e d there same equal =
-      let at_same : cell_in m.old a ≡ Some e = subst (λ z. cell_in m.old z ≡ Some e) (same_address x a same) there in
-      let is : e ≡ c = same_Some e c (sym at_same ∙ lies) in
-      record {
-        kind = ap (λ (z : Cell). z.kind) equal;
-        slots = ap (λ (z : Cell). z.slots) equal;
-        marked = ap (λ (z : Cell). z.marked) equal;
-        monitor = ap (λ (z : Cell). z.monitor) equal;
-        other = inl (ap (λ (z : Cell). z.other) is ∙ no_copy);
-      }
+      let is : e ≡ c = same_cell m.old x a e c same there lies in
+      subst (IsStill e) (sym equal) (record { kind = refl; slots = refl; marked = refl; monitor = refl; other = inl (ap (λ (z : Cell). z.other) is ∙ no_copy) })
 
   shell_stays : (x : Addr) (e : Cell) → cell_in m.old x ≡ Some e → (d : Cell) × (cell_in (with_shell m a c).old x ≡ Some d) × IsStill e d
   shell_stays x e there =
@@ -101,10 +83,8 @@ module _ (p : Progress) (o : Objects) where
 
   pub looked_else : IsElseStill o (next_shell_step p o).1
   looked_else = elim (looked_cases p o) [
-    | inl same ↦ same_else_still o (next_shell_step p o).1 same
-    | inr h ↦ (
-        let e = h.4 in
-        record { literals = ap (λ (x : Objects). x.literals) e; grey = ap (λ (x : Objects). x.spaces.grey) e; has_marked = ap (λ (x : Objects). x.spaces.has_marked) e; is_open = ap (λ (x : Objects). x.spaces.is_open) e })
+    | inl same ↦ else_still o (next_shell_step p o).1 o.spaces refl refl refl same
+    | inr h ↦ else_still o (next_shell_step p o).1 (with_shell o.spaces (address_after_cell o.spaces.old p.cursor) h.0) refl refl refl h.4
   ]
 
   -- what is live stays live, and nothing else becomes so
@@ -148,19 +128,18 @@ module _ (tree : Tree) (p : Progress) (o : Objects) where
     same : e ≡ d → IsFilling y d e
     word : (a : Addr) (c : Cell) (t : Attempt) → cell_in o.spaces.old a ≡ Some c → c.other ≡ Some y → e ≡ filled tree o.spaces c t p.copied_words d → IsFilling y d e
 
+  -- what the store of a word leaves of a new object
+  filling : (at : ℕ) (c : Cell) (b : Addr) (t : Attempt) (y : Addr) (d e : Cell) → cell_in o.spaces.old (record { number = at }) ≡ Some c → c.other ≡ Some b → IsAfter (filled tree o.spaces c t p.copied_words) b y d e → IsFilling y d e
+  filling at c b t y d e lies other (own number equal) = word (record { number = at }) c t lies (other ∙ ap Some (same_address b y (sym number))) equal
+  filling at c b t y d e lies other (still ne equal) = same equal
+
   -- a new object after a step, by what the step was
   new_then : (o' : Objects) → IsStep tree p o o' → (y : Addr) (d : Cell) → cell_in o.spaces.new y ≡ Some d → (e : Cell) × (cell_in o'.spaces.new y ≡ Some e) × IsFilling y d e
   new_then o' (none_stored equal) y d there = (d, ap (λ (z : Objects). cell_in z.spaces.new y) equal ∙ there, same refl)
   new_then o' (one_stored at c b t lies other is) y d there =
       let f = filled tree o.spaces c t p.copied_words in
-      let r = before_in f (λ z. filled_size tree o.spaces c t p.copied_words z) o.spaces.new b y d there in (
-        r.0,
-        ap (λ (z : Objects). cell_in z.spaces.new y) is ∙ r.1,
-        elim r.2 [
-          | own number equal ↦ word (record { number = at }) c t lies (other ∙ ap Some (same_address b y (sym number))) equal
-          | still ne equal ↦ same equal
-        ],
-      )
+      let r = before_in f (λ z. filled_size tree o.spaces c t p.copied_words z) o.spaces.new b y d there in
+      (r.0, ap (λ (z : Objects). cell_in z.spaces.new y) is ∙ r.1, filling at c b t y d r.0 lies other r.2)
 
   pub copied_new : (y : Addr) (d : Cell) → cell_in o.spaces.new y ≡ Some d → (e : Cell) × (cell_in (next_copy_step tree p o).1.spaces.new y ≡ Some e) × IsFilling y d e
   copied_new y d there = new_then (next_copy_step tree p o).1 (copied_cases tree p o) y d there
@@ -170,29 +149,18 @@ module _ (tree : Tree) (p : Progress) (o : Objects) where
   new_was o' (one_stored at c b t lies other is) y e there =
       let f = filled tree o.spaces c t p.copied_words in
       let now = sym (ap (λ (z : Objects). cell_in z.spaces.new y) is) ∙ there in
-      let r = after_in f (λ z. filled_size tree o.spaces c t p.copied_words z) o.spaces.new b y e now in (
-        r.0,
-        r.1,
-        elim r.2 [
-          | own number equal ↦ word (record { number = at }) c t lies (other ∙ ap Some (same_address b y (sym number))) equal
-          | still ne equal ↦ same equal
-        ],
-      )
+      let r = after_in f (λ z. filled_size tree o.spaces c t p.copied_words z) o.spaces.new b y e now in
+      (r.0, r.1, filling at c b t y r.0 e lies other r.2)
 
   pub copied_was_new : (y : Addr) (e : Cell) → cell_in (next_copy_step tree p o).1.spaces.new y ≡ Some e → (d : Cell) × (cell_in o.spaces.new y ≡ Some d) × IsFilling y d e
   copied_was_new y e there = new_was (next_copy_step tree p o).1 (copied_cases tree p o) y e there
 
-  else_still : (o' : Objects) → IsStep tree p o o' → IsElseStill o o'
-  else_still o' (none_stored equal) = same_else_still o o' equal
-  else_still o' (one_stored at c b t lies other e) = record {
-    literals = ap (λ (x : Objects). x.literals) e;
-    grey = ap (λ (x : Objects). x.spaces.grey) e;
-    has_marked = ap (λ (x : Objects). x.spaces.has_marked) e;
-    is_open = ap (λ (x : Objects). x.spaces.is_open) e;
-  }
+  step_else : (o' : Objects) → IsStep tree p o o' → IsElseStill o o'
+  step_else o' (none_stored equal) = else_still o o' o.spaces refl refl refl equal
+  step_else o' (one_stored at c b t lies other e) = else_still o o' (change_at (filled tree o.spaces c t p.copied_words) o.spaces b) refl refl refl e
 
   pub copied_else : IsElseStill o (next_copy_step tree p o).1
-  copied_else = else_still (next_copy_step tree p o).1 (copied_cases tree p o)
+  copied_else = step_else (next_copy_step tree p o).1 (copied_cases tree p o)
 
   -- the old block stays as it is
   old_still : (has_round : Bool) (words : ℕ) → IsSoundHeap tree Copy has_round words p o.spaces → (o' : Objects) → IsStep tree p o o' → o'.spaces.old ≡ o.spaces.old

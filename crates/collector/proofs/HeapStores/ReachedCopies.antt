@@ -3,7 +3,7 @@ use Rattle.std.proofs.Common.{◌≡◌, ◌≢◌, ◌⊎◌, inl, inr, ℕ, Bo
 use Rattle.std.specs.Prelude.{◌==◌, if◌then◌else◌, is_some, Option, Some, None}
 use Rattle.std.proofs.lemmas.Option.{same_Some}
 use Rattle.cil_model.specs.declared.phases.Phase.{Phase}
-use Rattle.cil_model.specs.declared.phases.Phase.TheVariants.{Idle, Mark, Allocate, Copy, HeapFlip, Reclaim}
+use Rattle.cil_model.specs.declared.phases.Phase.TheVariants.{Idle, Mark, Allocate, Copy, Reclaim}
 use Rattle.cil_model.specs.PhaseOrder.{is_phase}
 use Rattle.cil_model.specs.declared.trees.Tree.{Tree}
 use Rattle.cil_model.proofs.Lists.{none_is_some}
@@ -68,21 +68,10 @@ way_late Allocate p nothing = in_old refl refl (λ e. nothing)
 way_late Reclaim p nothing = in_old refl refl (λ e. never e)
 way_late _ p nothing = in_both refl refl
 
--- phases alternate between even and odd
-abbrev phase_parity : Phase → Bool
-phase_parity Mark = false
-phase_parity Copy = false
-phase_parity HeapFlip = false
-phase_parity Reclaim = false
-phase_parity _ = true
-
 -- no phase is the one before it
 pub not_after : (own : Phase) → own ≢ phase_after own
-not_after Mark e = never (ap phase_parity e)
-not_after Copy e = never (ap phase_parity e)
-not_after HeapFlip e = never (ap phase_parity e)
-not_after Reclaim e = never (ap phase_parity e)
-not_after _ e = never (sym (ap phase_parity e))
+not_after Idle e = absurd cc
+not_after _ e = absurd cc
 
 -- each thread beside the collector has its way
 pub way_of : (own posted_phase : Phase) (has_round : Bool) (p : Progress) (m : Spaces) → IsBeside own posted_phase → IsOnTime own posted_phase has_round p m → Way own posted_phase p

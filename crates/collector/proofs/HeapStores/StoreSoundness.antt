@@ -3,7 +3,7 @@ use Rattle.std.proofs.Common.{◌≡◌, ◌≢◌, ◌⊎◌, inl, inr, ℕ, Bo
 use Rattle.std.specs.Prelude.{if◌then◌else◌, Option, Some, None}
 use Rattle.std.specs.Option.{option_map_or}
 use Rattle.cil_model.specs.declared.phases.Phase.{Phase}
-use Rattle.cil_model.specs.declared.phases.Phase.TheVariants.{Idle, Mark, Allocate, Copy, PreFlip, HeapFlip, ThreadFlip, Reclaim}
+use Rattle.cil_model.specs.declared.phases.Phase.TheVariants.{Mark, Allocate, Copy, PreFlip, HeapFlip, ThreadFlip}
 use Rattle.cil_model.specs.PhaseOrder.{is_between}
 use Rattle.cil_model.specs.declared.trees.Tree.{Tree}
 use Rattle.object_memory.specs.declared.addresses.Addr.{Addr}
@@ -201,14 +201,8 @@ module _ (tree : Tree) (has_round : Bool) (words : ℕ) (p : Progress) (o : Obje
   -- a value in a slot
   pub value_keeps : (own posted_phase : Phase) → IsBesideHeap tree own posted_phase has_round words p o → IsHeldObject own posted_phase o a c → IsHeldValue tree own posted_phase o c.kind slot v
       → IsSoundHeap tree posted_phase has_round words p (stored_value own o a slot v).spaces
-  value_keeps Idle posted_phase thread object value = unmarked_stays Idle posted_phase (λ e. never (ap is_marking e)) thread object value
   value_keeps Mark posted_phase thread object value = marks_stay posted_phase thread.beside thread object value
-  value_keeps Allocate posted_phase thread object value = unmarked_stays Allocate posted_phase (λ e. never (ap is_marking e)) thread object value
-  value_keeps Copy posted_phase thread object value = unmarked_stays Copy posted_phase (λ e. never (ap is_marking e)) thread object value
-  value_keeps PreFlip posted_phase thread object value = unmarked_stays PreFlip posted_phase (λ e. never (ap is_marking e)) thread object value
-  value_keeps HeapFlip posted_phase thread object value = unmarked_stays HeapFlip posted_phase (λ e. never (ap is_marking e)) thread object value
-  value_keeps ThreadFlip posted_phase thread object value = unmarked_stays ThreadFlip posted_phase (λ e. never (ap is_marking e)) thread object value
-  value_keeps Reclaim posted_phase thread object value = unmarked_stays Reclaim posted_phase (λ e. never (ap is_marking e)) thread object value
+  value_keeps _ posted_phase thread object value = unmarked_stays _ posted_phase (λ e. never (ap is_marking e)) thread object value
 
 -- ---- whose monitor it is
 

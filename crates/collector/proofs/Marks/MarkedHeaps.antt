@@ -86,13 +86,7 @@ module _ (m : Spaces) (spaces : AreSpaces m) (q : Addr) (c : Cell) (lies : cell_
   after = marked_if true m q
 
   darker_after : (a : Addr) (b d : Cell) → IsAfter set_mark q a b d → IsDarker b d
-  darker_after a b d (own same e) = record {
-    kind = ap (λ x. x.kind) e;
-    slots = ap (λ x. x.slots) e;
-    other = ap (λ x. x.other) e;
-    monitor = ap (λ x. x.monitor) e;
-    marked = λ h. ap (λ x. x.marked) e;
-  }
+  darker_after a b d (own same e) = subst (IsDarker b) (sym e) (record { kind = refl; slots = refl; other = refl; monitor = refl; marked = λ h. refl })
   darker_after a b d (still ne e) = subst (λ x. IsDarker b x) (sym e) (IsDarker-refl b)
 
   AreDarker-marked : AreDarker m after
