@@ -12,10 +12,10 @@ use Rattle.reference_machine.specs.States.{Frame, Thread, State}
 use Rattle.reference_machine.specs.Effects.{StepContext, Effect, Goes, Blocks, Raises, Sticks}
 use Rattle.reference_machine.specs.RetainedWords.{IsRetained}
 use Rattle.reference_machine.specs.Reachable.{IsReachable}
-use Rattle.reference_machine.specs.Steps.{StepOutcome, Answers, Stuck, instruction_at, effect_of, with_thread_at, ended_as, continues, charge, step_of, step}
-use Rattle.reference_machine.specs.Runs.{StepRequest, RunsTo, followed_by, run}
+use Rattle.reference_machine.specs.Steps.{Answers, instruction_at, effect_of, with_thread_at, ended_as, continues, charge, step_of, step}
+use Rattle.reference_machine.specs.Runs.{StepRequest, RunsTo, run}
 use Rattle.reference_machine.proofs.Runs.InstructionEffects.{same_after, stuck_answers}
-use Rattle.reference_machine.proofs.Runs.JoinedRuns.{clash, same_state, after_run}
+use Rattle.reference_machine.proofs.Runs.JoinedRuns.{first_of, same_state}
 use Rattle.reference_machine.specs.TypedStates.{IsTyped}
 use Rattle.reference_machine.proofs.ReachableObjects.States.{AreFramesWithin, IsClosed, closed_thread_at}
 use Rattle.reference_machine.proofs.ReachableObjects.Instructions.{KeepsWithin, goes, sticks, given_within, instruction_within}
@@ -69,12 +69,9 @@ module _ (Inside : ℕ → Type 0) where
 
   pub run_within : (tree : Tree) (limits : Limits) (requests : List StepRequest) (s s' : State) (reports : List Report) → IsClosed Inside s → run tree limits s requests ≡ RunsTo reports s' → IsClosed Inside s'
   run_within tree limits [] s s' reports h e = subst (IsClosed Inside) (same_state [] reports s s' e) h
-  run_within tree limits (q ∷ qs) s s' reports h e = by_outcome (step tree limits s q.0 q.1) refl e (λ u rs closed k. run_within tree limits qs u s' rs closed k)
-    where
-      by_outcome : (o : StepOutcome) → step tree limits s q.0 q.1 ≡ o → followed_by o (λ u. run tree limits u qs) ≡ RunsTo reports s' →
-          ((u : State) (rs : List Report) → IsClosed Inside u → run tree limits u qs ≡ RunsTo rs s' → IsClosed Inside s') → IsClosed Inside s'
-      by_outcome Stuck is k later = clash [] reports s' k
-      by_outcome (Answers r u) is k later = after_run r reports s' (run tree limits u qs) k (λ rs k' e'. later u rs (step_within tree limits s u q.0 q.1 r h is) k')
+  run_within tree limits (q ∷ qs) s s' reports h e =
+      let x = first_of tree limits s q qs reports s' e in
+      run_within tree limits qs x.after s' x.later (step_within tree limits s x.after q.0 q.1 x.report h x.answers) x.runs
 
 -- ---- what is reachable after a step, or after a run
 

@@ -409,14 +409,12 @@ threads_aside s s' threads h = record { objects = h.objects; statics = h.statics
 
 ended_ok : (s s₁ s' : State) (t left : ℕ) (e : End) (r : Report) → Follows s s₁ → ended_as s₁ t left e ≡ Answers r s' → Follows s s'
 ended_ok s s₁ s' t left e r h k =
-    let P : State → Type 0 = λ x. Follows s x in
-    subst P (same_after (Ended e) r (with_thread_at s₁ t (record { frames = []; steps_left = left; ended = Some e })) s' k) (threads_aside s s₁ _ h)
+    subst (Follows s) (same_after (Ended e) r (with_thread_at s₁ t (record { frames = []; steps_left = left; ended = Some e })) s' k) (threads_aside s s₁ _ h)
 
 going_ok : (s s₁ s' : State) (t left : ℕ) (frames : List Frame) (q r : Report) → Follows s s₁ → continues q s₁ t left frames ≡ Answers r s' → Follows s s'
 going_ok s s₁ s' t zero frames q r h k = ended_ok s s₁ s' t 0 Budget r h k
 going_ok s s₁ s' t (suc left) frames q r h k =
-    let P : State → Type 0 = λ x. Follows s x in
-    subst P (same_after q r (with_thread_at s₁ t (record { frames = frames; steps_left = suc left; ended = None })) s' k) (threads_aside s s₁ _ h)
+    subst (Follows s) (same_after q r (with_thread_at s₁ t (record { frames = frames; steps_left = suc left; ended = None })) s' k) (threads_aside s s₁ _ h)
 
 step_charged_ok : (s s' : State) (t left : ℕ) (frames : List Frame) (e : Effect) (r : Report) → Allowed (Follows s) (Unit {0}) AnyFault e → charge s t left frames e ≡ Answers r s' → Follows s s'
 step_charged_ok s s' t left frames (Goes [] s₁) r (goes _ _ h) k = ended_ok s s₁ s' t left Done r h k
@@ -437,7 +435,7 @@ step_follows tree limits s t refused r s' e = by_thread (slice_get s.threads t) 
     here = record { tree = tree; limits = limits; thread = t; is_refused = refused }
 
     same : Answers Absent s ≡ Answers r s' → Follows s s'
-    same h = let P : State → Type 0 = λ x. Follows s x in subst P (same_after Absent r s s' h) (follows_itself s)
+    same h = subst (Follows s) (same_after Absent r s s' h) (follows_itself s)
 
     by_life : (thread : Thread) (b : Bool) → (if b then charge s t (thread.steps_left - 1) thread.frames (effect_of here s thread.frames) else Answers Absent s) ≡ Answers r s' → Follows s s'
     by_life thread true h = step_charged_ok s s' t (thread.steps_left - 1) thread.frames (effect_of here s thread.frames) r (frames_ok here s thread.frames) h

@@ -64,8 +64,7 @@ module _ (tree : Tree) (limits : Limits) where
     -- a run that continues as another from the state that it reached
     goes_after : (first : List StepRequest) (s t : State) (reports : List Report) → run tree limits s first ≡ RunsTo reports t → run tree limits t more ≡ end [] → run tree limits s (first ++ more) ≡ end reports
     goes_after [] s t reports e h =
-        let P : State → Type 0 = λ x. run tree limits x more ≡ end [] in
-        subst P (sym (same_state [] reports s t e)) h ∙ ap end (same_reports [] reports s t e)
+        subst (λ (x : State). run tree limits x more ≡ end []) (sym (same_state [] reports s t e)) h ∙ ap end (same_reports [] reports s t e)
     goes_after (q ∷ qs) s t reports e h =
         let x = first_of s q qs reports t e in
         ap (λ o. followed_by o (λ u. run tree limits u (qs ++ more))) x.answers ∙ ap (preceded_by x.report) (goes_after qs x.after t x.later x.runs h) ∙ grows x.report x.later ∙ ap end (sym x.are)
@@ -89,7 +88,7 @@ module _ (tree : Tree) (limits : Limits) where
 
   -- a run takes nothing back
   pub run_follows : (requests : List StepRequest) (s t : State) (reports : List Report) → run tree limits s requests ≡ RunsTo reports t → Follows s t
-  run_follows [] s t reports e = let P : State → Type 0 = λ x. Follows s x in subst P (same_state [] reports s t e) (follows_itself s)
+  run_follows [] s t reports e = subst (Follows s) (same_state [] reports s t e) (follows_itself s)
   run_follows (q ∷ qs) s t reports e =
       let x = first_of s q qs reports t e in
       follows_more s x.after t (step_follows tree limits s q.0 q.1 x.report x.after x.answers) (run_follows qs x.after t x.later x.runs)

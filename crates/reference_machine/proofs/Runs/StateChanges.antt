@@ -99,8 +99,7 @@ follows_field s n k v s' h =
     option_and_then_some _ (object_at s n) s' h (λ o there h'.
     option_and_then_some _ (fields_of_contents o.contents) s' h' (λ fields held h''.
     mapped_some _ (replaced_entry k v fields) s' h'' (λ fields' stored e.
-    let P : State → Type 0 = λ x. Follows s x in
-    subst P e (follows_object_at s n o (record o { contents = with_fields o.contents fields' }) there (by_contents o.contents fields fields' held (replaced_keys k v fields fields' stored))))))
+    subst (Follows s) e (follows_object_at s n o (record o { contents = with_fields o.contents fields' }) there (by_contents o.contents fields fields' held (replaced_keys k v fields fields' stored))))))
   where
     by_contents : (c : Contents) (fields fields' : List (FieldKey × Value)) → fields_of_contents c ≡ Some fields → map (λ (e : FieldKey × Value). e.0) fields' ≡ map (λ (e : FieldKey × Value). e.0) fields →
         shape_of (with_fields c fields') ≡ shape_of c
@@ -112,8 +111,7 @@ follows_element s n i v s' h =
     option_and_then_some _ (object_at s n) s' h (λ o there h'.
     option_and_then_some _ (elements_of_contents o.contents) s' h' (λ array held h''.
     mapped_some _ (replaced_at i v array.1) s' h'' (λ elements stored e.
-    let P : State → Type 0 = λ x. Follows s x in
-    subst P e (follows_object_at s n o (record o { contents = Array array.0 elements }) there (by_contents o.contents array elements held (replaced_length i v array.1 elements stored))))))
+    subst (Follows s) e (follows_object_at s n o (record o { contents = Array array.0 elements }) there (by_contents o.contents array elements held (replaced_length i v array.1 elements stored))))))
   where
     by_contents : (c : Contents) (array : DeclaredType × List Value) (elements : List Value) → elements_of_contents c ≡ Some array → length elements ≡ length array.1 → OfArray array.0 (length elements) ≡ shape_of c
     by_contents (Instance c old) array elements held e = none_is_some array held
