@@ -56,10 +56,7 @@ module _ (start : ℕ) (block : List ℕ) (used : ℕ) (laid : IsLaid block used
 
 -- ---- cells
 
-module _ (start : ℕ) (block : List ℕ) (used : ℕ) (laid : IsLaid block used) (a : Addr) where
-  abbrev h : Cells
-  h = shown start block used
-
+module _ {start : ℕ} {block : List ℕ} {used : ℕ} (laid : IsLaid block used) {h : Cells} (is : shown start block used ≡ h) (a : Addr) where
   abbrev offset : ℕ
   offset = a.number - start
 
@@ -70,7 +67,9 @@ module _ (start : ℕ) (block : List ℕ) (used : ℕ) (laid : IsLaid block used
     lies : Lies block used laid start a.number cell
 
   held : IsSome (cell_in h a) → Held
-  held some = let c = some_cell (cell_in h a) some in record { cell = c.0; at = c.1; lies = lies block used laid start a.number c.0 c.1 }
+  held some =
+      let c = some_cell (cell_in h a) some in
+      record { cell = c.0; at = c.1; lies = lies block used laid start a.number c.0 (ap (λ (x : Cells). cell_in x a) is ∙ c.1) }
 
   -- ---- the header words
 
@@ -150,7 +149,7 @@ module _ (start : ℕ) (block : List ℕ) (used : ℕ) (laid : IsLaid block used
   stored j w f c less e decoded =
       let new = word_written block used laid start a.number j w c.cell f c.lies less e decoded in
       record {
-        view = rw (new.cells, length-set) refl;
+        view = rw (← is, new.cells, length-set) refl;
         still_laid = new.laid;
         long = length-set block (offset + j) w;
       }
