@@ -1,4 +1,4 @@
-use Rattle.std.proofs.Common.{ℕ, ◌+◌, Bool, false, List, length, map, mul-le-mul, replicate, refl, ap, sym, ◌∙◌}
+use Rattle.std.proofs.Common.{ℕ, ◌+◌, Bool, false, List, length, map, mul-le-mul, replicate, refl, ap, rules, sym, ◌∙◌}
 use Rattle.std.proofs.lemmas.List.{length-replicate}
 use Rattle.std.proofs.lemmas.Result.{IfOk-from_err}
 use Rattle.flip_table.specs.Tokens as Table
@@ -24,28 +24,16 @@ pub new-requires-clause-limit : goal.new-requires-clause-limit
 new-requires-clause-limit c = rw c.from-2.ensures (limit_within c.args.objects c.requires.sizes.0)
 
 pub returns-in_err-from_slice : goal.returns-in_err-from_slice
-returns-in_err-from_slice c =
-    let none = IfOk-from_err c.from_residual.result in
-    let err = c.from_residual.ensures.0 in
-    record { flip = none _ err; copier = none _ err; writers = none _ err }
+returns-in_err-from_slice c = search (rules, IfOk-from_err)
 
 pub returns-in_err-copied : goal.returns-in_err-copied
-returns-in_err-copied c =
-    let none = IfOk-from_err c.from_residual-in_err-copied.result in
-    let err = c.from_residual-in_err-copied.ensures.0 in
-    record { flip = none _ err; copier = none _ err; writers = none _ err }
+returns-in_err-copied c = search (rules, IfOk-from_err)
 
 pub returns-in_err-table : goal.returns-in_err-table
-returns-in_err-table c =
-    let none = IfOk-from_err c.from_residual-in_err-table.result in
-    let err = c.from_residual-in_err-table.ensures.0 in
-    record { flip = none _ err; copier = none _ err; writers = none _ err }
+returns-in_err-table c = search (rules, IfOk-from_err)
 
 pub returns-in_err-writers : goal.returns-in_err-writers
-returns-in_err-writers c =
-    let none = IfOk-from_err c.from_residual-in_err-writers.result in
-    let err = c.from_residual-in_err-writers.ensures.0 in
-    record { flip = none _ err; copier = none _ err; writers = none _ err }
+returns-in_err-writers c = search (rules, IfOk-from_err)
 
 pub invariant_of-flip : goal.invariant_of-flip
 invariant_of-flip c = (c.requires.sizes.0, rw c.in_ok-table.ensures.table (ap (λ n. n + 1) c.from-2.ensures), rw (c.in_ok-table.ensures.table, c.in_ok-from_slice.ensures.items) c.requires.writers.0)
