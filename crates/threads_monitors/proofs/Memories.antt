@@ -66,7 +66,7 @@ begun arguments kinds method depth room values below stack capacity most_below s
     })
     (rw count (omega (arith, fits)), tt) (omega (arith, some, ap length below_are)) large deep
 
-module _ (values : List Value) (running : Activation) (below : List Activation) (depth room capacity most_below : ℕ) (s : IsSoundStack values running below depth room capacity most_below) where
+module _ {values : List Value} {running : Activation} {below : List Activation} {depth room capacity most_below : ℕ} (s : IsSoundStack values running below depth room capacity most_below) where
   abbrev m : Frames
   m = visible_frames values running below depth room
 
@@ -309,8 +309,8 @@ module _ (values : List Value) (running : Activation) (below : List Activation) 
 
 -- ---- the running frame of another memory
 
-module _ (values : List Value) (running : Activation) (below : List Activation) (depth room capacity most_below : ℕ) (s : IsSoundStack values running below depth room capacity most_below)
-    (values' : List Value) (running' : Activation) (below' : List Activation) (depth' room' capacity' most_below' : ℕ) (s' : IsSoundStack values' running' below' depth' room' capacity' most_below') (fits : room' ≤ room) where
+module _ {values : List Value} {running : Activation} {below : List Activation} {depth room capacity most_below : ℕ} (s : IsSoundStack values running below depth room capacity most_below)
+    {values' : List Value} {running' : Activation} {below' : List Activation} {depth' room' capacity' most_below' : ℕ} (s' : IsSoundStack values' running' below' depth' room' capacity' most_below') (fits : room' ≤ room) where
   abbrev old : Frames
   old = visible_frames values running below depth room
 
@@ -341,7 +341,7 @@ module _ (values : List Value) (running : Activation) (below : List Activation) 
   -- room for all of it
   pub room_for_other : length (take running.arguments values) + length (drop running'.arguments values') ≤ capacity
   room_for_other =
-      let count = count_below values running below depth room capacity most_below s in
+      let count = count_below s in
       let less = value_stacks.length-value_stack room old.below s.fit.1 in
       let long = ap length taken ∙ value_stacks.length-values_of other.running in
       let few = s.few in
@@ -376,7 +376,7 @@ module _ (values : List Value) (running : Activation) (below : List Activation) 
 
 -- ---- one frame in two memories
 
-module _ (values : List Value) (running : Activation) (below : List Activation) (depth room capacity most_below : ℕ) (s : IsSoundStack values running below depth room capacity most_below) where
+module _ {values : List Value} {running : Activation} {below : List Activation} {depth room capacity most_below : ℕ} (s : IsSoundStack values running below depth room capacity most_below) where
   -- the running frame lies in its own values
   pub own_values : drop running.arguments values ≡ values_of (visible_frames values running below depth room).running
   own_values =

@@ -1,5 +1,4 @@
 use Rattle.std.proofs.Common.{arith, ap, sym, ◌∙◌, ◌++◌, reverse, drop}
-use Rattle.std.specs.Prelude.{vec_capacity}
 use Rattle.std.specs.Option.{option_to_list}
 use Rattle.threads_monitors.specs.Frames.{Frames, with_stack}
 use Rattle.threads_monitors.proofs.Memories.{Popped, index_below, after_pop}
@@ -8,12 +7,12 @@ use Rattle.threads_monitors.proofs.frames.FrameMemory.pop.Goals as goal
 pub unwrap-requires : goal.unwrap-requires
 unwrap-requires c =
     let given = rw (← c.self.view_is) at c.requires in
-    c.pop.ensures.variant.1 (omega (arith, index_below c.self.inside.values.items c.self.inside.running c.self.inside.below.items c.self.inside.depth c.self.inside.room (vec_capacity c.self.inside.values) (vec_capacity c.self.inside.below) c.self.invariant 1 given))
+    c.pop.ensures.variant.1 (omega (arith, index_below c.self.invariant 1 given))
 
-popped : (c : goal.After-unwrap) → Popped c.self.inside.values.items c.self.inside.running c.self.inside.below.items c.self.inside.depth c.self.inside.room (vec_capacity c.self.inside.values) (vec_capacity c.self.inside.below) c.self.invariant c.pop.new.self.items c.unwrap.result
+popped : (c : goal.After-unwrap) → Popped c.self.invariant c.pop.new.self.items c.unwrap.result
 popped c =
     let given = rw (← c.self.view_is) at c.requires in
-    after_pop c.self.inside.values.items c.self.inside.running c.self.inside.below.items c.self.inside.depth c.self.inside.room (vec_capacity c.self.inside.values) (vec_capacity c.self.inside.below) c.self.invariant c.pop.new.self.items c.unwrap.result given (c.pop.ensures.items ∙ ap (λ o. c.pop.new.self.items ++ option_to_list o) c.unwrap.ensures)
+    after_pop c.self.invariant c.pop.new.self.items c.unwrap.result given (c.pop.ensures.items ∙ ap (λ o. c.pop.new.self.items ++ option_to_list o) c.unwrap.ensures)
 
 pub invariant_of-self : goal.invariant_of-self
 invariant_of-self c = rw c.pop.ensures.capacity (popped c).sound

@@ -1,5 +1,4 @@
 use Rattle.std.proofs.Common.{◌≡◌, ◌∙◌, ap, sym, drop}
-use Rattle.std.specs.Prelude.{vec_capacity}
 use Rattle.threads_monitors.specs.Activations.{frame_of, moved_to}
 use Rattle.threads_monitors.specs.Frames.{Frames}
 use Rattle.threads_monitors.specs.Roots.{values_of}
@@ -10,10 +9,10 @@ pub returns-then-is_same_activation : goal.returns-then-is_same_activation
 returns-then-is_same_activation c =
     let mine = c.values_from.ensures ∙ ap (drop c.self.inside.running.arguments) c.deref.ensures.value in
     let theirs = c.values_from-then-is_same_activation.ensures ∙ ap (drop c.other.inside.running.arguments) c.deref-then-is_same_activation.ensures.value in
-    let first = own_frame c.self.inside.values.items c.self.inside.running c.self.inside.below.items c.self.inside.depth c.self.inside.room (vec_capacity c.self.inside.values) (vec_capacity c.self.inside.below) c.self.invariant in
-    let second = own_frame c.other.inside.values.items c.other.inside.running c.other.inside.below.items c.other.inside.depth c.other.inside.room (vec_capacity c.other.inside.values) (vec_capacity c.other.inside.below) c.other.invariant in
-    let values = own_values c.self.inside.values.items c.self.inside.running c.self.inside.below.items c.self.inside.depth c.self.inside.room (vec_capacity c.self.inside.values) (vec_capacity c.self.inside.below) c.self.invariant in
-    let values' = own_values c.other.inside.values.items c.other.inside.running c.other.inside.below.items c.other.inside.depth c.other.inside.room (vec_capacity c.other.inside.values) (vec_capacity c.other.inside.below) c.other.invariant in
+    let first = own_frame c.self.invariant in
+    let second = own_frame c.other.invariant in
+    let values = own_values c.self.invariant in
+    let values' = own_values c.other.invariant in
     let mine_is = ap (λ (m : Frames). m.running) c.self.view_is in
     let theirs_is = ap (λ (m : Frames). m.running) c.other.view_is in
     let alike : moved_to 0 c.self.inside.running ≡ moved_to 0 c.other.inside.running = c.is_same_activation.ensures.0 c.if-is_same_activation.true in (

@@ -1,4 +1,4 @@
-use Rattle.std.proofs.Common.{◌≡◌, ◌++◌, ◌∙◌, take, drop, arith, ap, sym, subst, length}
+use Rattle.std.proofs.Common.{◌++◌, ◌∙◌, take, drop, arith, ap, length}
 use Rattle.std.specs.Prelude.{vec_capacity}
 use Rattle.threads_monitors.specs.Activations.{visible_frames}
 use Rattle.threads_monitors.specs.Frames.{Frames, with_running}
@@ -8,8 +8,8 @@ use Rattle.threads_monitors.proofs.frames.FrameMemory.set_running.Goals as goal
 pub push_values-requires : goal.push_values-requires
 push_values-requires c =
     let fits = rw (← c.self.view_is, ← c.other.view_is) at c.requires in
-    let room = room_for_other c.self.inside.values.items c.self.inside.running c.self.inside.below.items c.self.inside.depth c.self.inside.room (vec_capacity c.self.inside.values) (vec_capacity c.self.inside.below) c.self.invariant
-    c.other.inside.values.items c.other.inside.running c.other.inside.below.items c.other.inside.depth c.other.inside.room (vec_capacity c.other.inside.values) (vec_capacity c.other.inside.below) c.other.invariant fits in
+    let room = room_for_other c.self.invariant
+    c.other.invariant fits in
     let kept = ap length c.truncate.ensures.items in
     let taken = ap length (c.values_from.ensures ∙ ap (drop c.other.inside.running.arguments) c.deref.ensures.value) in
     record { room = omega (arith, room, kept, taken, c.truncate.ensures.capacity) }
@@ -20,8 +20,8 @@ set : (c : goal.After-self-1) → Holds c.push_values.new.values.items c.move_ac
 set c =
     let fits = rw (← c.self.view_is, ← c.other.view_is) at c.requires in
     let taken = c.values_from.ensures ∙ ap (drop c.other.inside.running.arguments) c.deref.ensures.value in
-    is_set c.self.inside.values.items c.self.inside.running c.self.inside.below.items c.self.inside.depth c.self.inside.room (vec_capacity c.self.inside.values) (vec_capacity c.self.inside.below) c.self.invariant
-    c.other.inside.values.items c.other.inside.running c.other.inside.below.items c.other.inside.depth c.other.inside.room (vec_capacity c.other.inside.values) (vec_capacity c.other.inside.below) c.other.invariant fits
+    is_set c.self.invariant
+    c.other.invariant fits
     c.push_values.new.values.items c.move_activation-self-inside.result (vec_capacity c.push_values.new.values)
     (c.push_values.ensures.items ∙ ap (λ xs. xs ++ c.values_from.result.now) c.truncate.ensures.items ∙ ap (λ xs. take c.self.inside.running.arguments c.self.inside.values.items ++ xs) taken)
     c.move_activation-self-inside.ensures

@@ -1,11 +1,10 @@
-use Rattle.std.specs.Prelude.{vec_capacity}
 use Rattle.threads_monitors.proofs.Memories.{part_at, part_within}
 use Rattle.threads_monitors.proofs.frames.FrameMemory.values_of.Goals as goal
 
 pub part-requires : goal.part-requires
 part-requires c =
     let few = rw (← c.self.view_is) at c.requires in
-    let within = part_within c.self.inside.values.items c.self.inside.running c.self.inside.below.items c.self.inside.depth c.self.inside.room (vec_capacity c.self.inside.values) (vec_capacity c.self.inside.below) c.self.invariant c.args.frame few in
+    let within = part_within c.self.invariant c.args.frame few in
     let start = rw (← c.self.view_is) at c.activation.ensures.begins in
     let end = rw (← c.self.view_is) at c.end_of.ensures in
     rw (start, end, c.deref.ensures.value) (record { order = within.0; within = within.1 })
@@ -15,4 +14,4 @@ returns c =
     let few = rw (← c.self.view_is) at c.requires in
     let start = rw (← c.self.view_is) at c.activation.ensures.begins in
     let end = rw (← c.self.view_is) at c.end_of.ensures in
-    rw (c.part.ensures, start, end, c.deref.ensures.value, ← c.self.view_is) (part_at c.self.inside.values.items c.self.inside.running c.self.inside.below.items c.self.inside.depth c.self.inside.room (vec_capacity c.self.inside.values) (vec_capacity c.self.inside.below) c.self.invariant c.args.frame few)
+    rw (c.part.ensures, start, end, c.deref.ensures.value, ← c.self.view_is) (part_at c.self.invariant c.args.frame few)
