@@ -3,7 +3,7 @@ use Rattle.std.proofs.Common.{◌≡◌, ℕ, ◌+◌, ◌-◌, ◌≤◌, Bool,
 use Rattle.std.specs.Prelude.{nat_le, Option, Some, None, IsSome, IfSome, option_map}
 use Rattle.std.proofs.lemmas.Bool.Decides.{nat_tests}
 use Rattle.cil_model.specs.declared.phases.Phase.{Phase}
-use Rattle.cil_model.specs.declared.phases.Phase.TheVariants.{Idle, Mark, Allocate, Copy, PreFlip, HeapFlip, ThreadFlip, Reclaim}
+use Rattle.cil_model.specs.declared.phases.Phase.TheVariants.{Idle, Reclaim}
 use Rattle.object_memory.specs.declared.addresses.Addr.{Addr}
 use Rattle.object_memory.specs.declared.kinds.Kind.{Kind}
 use Rattle.object_memory.specs.declared.monitors.Monitor.{Monitor}
@@ -142,14 +142,9 @@ module _ (old : Cells) (cycle : Option Cycle) (c : Cycle) (h : IsHeld old cycle)
 -- a thread whose births are put on the grey list is in a phase that it has only while a cycle is open
 pub listed_in_cycle : (phase : Phase) (is_open : Bool) → birth_space_of phase is_open ≡ Listed → is_within_cycle phase ≡ true
 listed_in_cycle Idle is_open e = absurd cc
-listed_in_cycle Mark is_open e = refl
-listed_in_cycle Allocate is_open e = refl
-listed_in_cycle Copy is_open e = refl
-listed_in_cycle PreFlip is_open e = refl
-listed_in_cycle HeapFlip is_open e = refl
-listed_in_cycle ThreadFlip is_open e = refl
 listed_in_cycle Reclaim true e = absurd cc
 listed_in_cycle Reclaim false e = absurd cc
+listed_in_cycle _ is_open e = refl
 
 -- what is born has no literal's address
 pub born_decoded : (o p : Objects) → AreSpaces o.spaces → o ≡ p → (offset : BirthSpace) (k : Kind) (n : ℕ) (after : Objects) (r : Option Addr) → ◌≡◌ {A = Objects × Option Addr} (after, r) (with_birth_at offset p k n)

@@ -5,6 +5,7 @@ pub mod Rooms
 pub mod Births
 pub mod Offsets
 pub mod HeldBirths
+pub mod ChangedCells
 pub mod MonitorsAt
 pub mod Counts
 pub mod Spaces

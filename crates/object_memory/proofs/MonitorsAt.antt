@@ -1,6 +1,6 @@
 -- The monitors of literals and objects after a store or a birth: each stays but the one that was stored.
 use Rattle.std.proofs.Common.{◌≡◌, ◌≢◌, ℕ, zero, suc, ◌+◌, ◌-◌, Bool, true, false, List, [], ◌∷◌, refl, ap, arith}
-use Rattle.std.specs.Prelude.{◌==◌, nat_lt, if◌then◌else◌, slice_get, slice_set, Option, Some, None, IsSome, option_map}
+use Rattle.std.specs.Prelude.{nat_lt, if◌then◌else◌, slice_get, slice_set, Option, Some, None, IsSome, option_map}
 use Rattle.std.specs.Option.{option_map_or}
 use Rattle.std.proofs.Math.ListN.{length-set}
 use Rattle.std.proofs.lemmas.Bool.Decides.{nat_tests}
@@ -8,12 +8,13 @@ use Rattle.object_memory.specs.declared.addresses.Addr.{Addr}
 use Rattle.object_memory.specs.declared.addresses.TheConstants.{FIRST_LITERAL}
 use Rattle.object_memory.specs.declared.kinds.Kind.{Kind}
 use Rattle.object_memory.specs.declared.monitors.Monitor.{Monitor}
-use Rattle.object_memory.specs.Cells.{Cell, size, cell_from, change_from, null, literal, literal_number, store_slot, store_monitor, cell_in, change_in}
-use Rattle.object_memory.specs.Spaces.{AreSpaces, first_of, cell_at, change_at, birth_space_of}
+use Rattle.object_memory.specs.Cells.{Cell, size, null, literal, literal_number, store_slot, store_monitor}
+use Rattle.object_memory.specs.Spaces.{AreSpaces, cell_at, change_at, birth_space_of}
 use Rattle.object_memory.specs.Objects.{Objects, with_birth, with_cell, with_literal_monitor, with_slot, monitor_at, with_monitor}
 use Rattle.cil_model.specs.declared.phases.Phase.{Phase}
 use Rattle.object_memory.proofs.TwoSpaces.TwoBlocks.{change-own, change-other}
 use Rattle.object_memory.proofs.Births.{birth_at-kept}
+use Rattle.object_memory.proofs.ChangedCells.{kept_at}
 
 -- ---- addresses of literals
 
@@ -56,33 +57,13 @@ set_other (x ∷ xs) (suc n) (suc k) m ne = set_other xs n k m (λ e. ne (ap suc
 abbrev monitor_of : Option Cell → Option Monitor
 monitor_of o = option_map (λ (c : Cell). c.monitor) o
 
--- in either block
-in_both : (x x' y y' : Option Cell) → monitor_of x' ≡ monitor_of x → monitor_of y' ≡ monitor_of y → monitor_of (first_of x' y') ≡ monitor_of (first_of x y)
-in_both None None y y' e e' = e'
-in_both None (Some c) y y' e e' = absurd cc
-in_both (Some c) None y y' e e' = absurd cc
-in_both (Some c) (Some d) y y' e e' = e
-
 module _ (f : Cell → Cell) (sizes : (c : Cell) → size (f c) ≡ size c) (monitors : (c : Cell) → (f c).monitor ≡ c.monitor) where
-  kept : (at : ℕ) (cs : List Cell) (a b : ℕ) → monitor_of (cell_from at (change_from f at cs a) b) ≡ monitor_of (cell_from at cs b)
-  kept at [] a b = refl
-  kept at (x ∷ xs) a b = kept_by (a == at) (b == at) refl (kept (at + size x) xs a b)
-    where
-      kept_by : (s t : Bool) → (b == at) ≡ t
-          → monitor_of (cell_from (at + size x) (change_from f (at + size x) xs a) b) ≡ monitor_of (cell_from (at + size x) xs b)
-          → monitor_of (cell_from at (if s then f x ∷ xs else x ∷ change_from f (at + size x) xs a) b) ≡ monitor_of (cell_from at (x ∷ xs) b)
-      kept_by true true test rest = rw test (ap Some (monitors x))
-      kept_by true false test rest = rw (test, sizes x) refl
-      kept_by false true test rest = rw test refl
-      kept_by false false test rest = rw test rest
-
-  kept_at : (o : Objects) (a b : Addr) (n : Option ℕ) → literal_number b ≡ n → monitor_at (with_cell f o a) b ≡ monitor_at o b
-  kept_at o a b (Some n) e = rw e refl
-  kept_at o a b None e = rw e (in_both (cell_in o.spaces.old b) (cell_in (change_in f o.spaces.old a) b) (cell_in o.spaces.new b) (cell_in (change_in f o.spaces.new a) b)
-      (kept o.spaces.old.start o.spaces.old.cells a.number b.number) (kept o.spaces.new.start o.spaces.new.cells a.number b.number))
+  kept_by : (o : Objects) (a b : Addr) (n : Option ℕ) → literal_number b ≡ n → monitor_at (with_cell f o a) b ≡ monitor_at o b
+  kept_by o a b (Some n) e = rw e refl
+  kept_by o a b None e = rw e (kept_at (λ c. c.monitor) f sizes monitors o.spaces a b)
 
   cell_keeps_monitors : (o : Objects) (a b : Addr) → monitor_at (with_cell f o a) b ≡ monitor_at o b
-  cell_keeps_monitors o a b = kept_at o a b (literal_number b) refl
+  cell_keeps_monitors o a b = kept_by o a b (literal_number b) refl
 
 pub slot_keeps_monitors : (o : Objects) (a b : Addr) (i w : ℕ) → monitor_at (with_slot o a i w) b ≡ monitor_at o b
 slot_keeps_monitors o a b i w = cell_keeps_monitors (store_slot i w) (λ c. ap (λ n. 3 + n) (length-set c.slots i w)) (λ c. refl) o a b
