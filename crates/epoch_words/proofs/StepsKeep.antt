@@ -38,19 +38,16 @@ loaded_keeps workers s rule i homes mover w mine = subst (λ (ws : List ℕ). Ke
 
 loads_posted_at : (workers slots id : ℕ) (seat : SeatView) → Allows (KeepsEpochs workers) slots id (OfSeat seat, []) workers (λ n. n) (LoadsPosted (step slots workers 0 0 none) (OfSeat seat, []))
 loads_posted_at workers slots id seat s rule _ at _ = let k : IsSeatView s.words workers id seat = rule.known id (OfSeat seat) at in let n : ℕ = get_or s.words workers 0 in let near = rule.within_one_epoch seat.index k.in_range in
-    let after : View = OfSeat (record seat { polled = n; polls = seat.polls + 1 }) in (
-      after,
-      keeps,
-      tt,
-      loaded_keeps workers s rule workers s.homes id after record {
-        position_is = k.position_is;
-        in_range = k.in_range;
-        seen_is = k.seen_is;
-        seen_polled = omega (arith, near.0, k.seen_is);
-        polled_posted = omega arith;
-      },
-      (refl, subst (λ (m : ℕ). IsPostedOrOneLess m n) k.seen_is near, k.polled_posted),
-    )
+    let after : View = OfSeat (record seat { polled = n; polls = seat.polls + 1 }) in
+    let kept =
+    loaded_keeps workers s rule workers s.homes id after record {
+      position_is = k.position_is;
+      in_range = k.in_range;
+      seen_is = k.seen_is;
+      seen_polled = omega (arith, near.0, k.seen_is);
+      polled_posted = omega arith;
+    } in
+    (after, keeps, tt, kept, (refl, subst (λ (m : ℕ). IsPostedOrOneLess m n) k.seen_is near, k.polled_posted))
 
 pub loads_posted : (key workers slots id : ℕ) (me : Holder) (seat : SeatView) → key ≡ workers → me ≡ (OfSeat seat, [])
     → Allows (KeepsEpochs key) slots id me workers (λ n. n) (LoadsPosted (step slots workers 0 0 none) me)
@@ -96,22 +93,19 @@ module _ (workers : ℕ) (ws : List ℕ) (i x : ℕ) (in_range : i < workers) wh
 stores_seen_at : (workers slots id : ℕ) (seat : SeatView)
     → Allows (KeepsEpochs workers) slots id (OfSeat seat, []) seat.index (λ _. seat.polled) (λ _. StoresSeen (step slots seat.index seat.polled 0 none) (OfSeat seat, []) seat.polled)
 stores_seen_at workers slots id seat s rule _ at _ = let k : IsSeatView s.words workers id seat = rule.known id (OfSeat seat) at in let near = rule.within_one_epoch seat.index k.in_range in let last = at_inside s.views id (OfSeat seat) at in
-    let after : List ℕ = set s.words seat.index seat.polled in let posted_same = posted_stays workers s.words seat.index seat.polled k.in_range in let acked : View = OfSeat (record seat { seen = seat.polled }) in (
-      acked,
-      keeps,
-      tt,
-      stepped_keeps workers s rule after s.homes id acked (length-set s.words seat.index seat.polled)
-          (seen_paced workers s.words seat.index seat.polled k.in_range rule.words_are rule.within_one_epoch (k.polled_posted, omega (arith, near.1, k.seen_is, k.seen_polled)))
-          record {
-            position_is = k.position_is;
-            in_range = k.in_range;
-            seen_is = here workers s.words seat.index seat.polled k.in_range rule.words_are;
-            seen_polled = omega arith;
-            polled_posted = subst (λ (n : ℕ). seat.polled ≤ n) (sym posted_same) k.polled_posted;
-          }
-          (λ j v ne o. seen_others workers s.words seat.index seat.polled k.in_range (length s.views) rule.words_are (omega (arith, last, k.position_is)) (omega (arith, k.seen_is, k.seen_polled)) j v (λ e. ne (e ∙ sym k.position_is)) o),
-      refl,
-    )
+    let after : List ℕ = set s.words seat.index seat.polled in let posted_same = posted_stays workers s.words seat.index seat.polled k.in_range in let acked : View = OfSeat (record seat { seen = seat.polled }) in
+    let kept =
+    stepped_keeps workers s rule after s.homes id acked (length-set s.words seat.index seat.polled)
+    (seen_paced workers s.words seat.index seat.polled k.in_range rule.words_are rule.within_one_epoch (k.polled_posted, omega (arith, near.1, k.seen_is, k.seen_polled)))
+    record {
+      position_is = k.position_is;
+      in_range = k.in_range;
+      seen_is = here workers s.words seat.index seat.polled k.in_range rule.words_are;
+      seen_polled = omega arith;
+      polled_posted = subst (λ (n : ℕ). seat.polled ≤ n) (sym posted_same) k.polled_posted;
+    }
+    (λ j v ne o. seen_others workers s.words seat.index seat.polled k.in_range (length s.views) rule.words_are (omega (arith, last, k.position_is)) (omega (arith, k.seen_is, k.seen_polled)) j v (λ e. ne (e ∙ sym k.position_is)) o) in
+    (acked, keeps, tt, kept, refl)
 
 pub stores_seen : (key slots id index polled : ℕ) (me : Holder) (seat : SeatView) → index ≡ seat.index → polled ≡ seat.polled → me ≡ (OfSeat seat, [])
     → Allows (KeepsEpochs key) slots id me index (λ _. polled) (λ _. StoresSeen (step slots index polled 0 none) me polled)
@@ -122,22 +116,19 @@ stores_seen key slots id index polled me seat index_is polled_is me_is =
 loads_seen_at : (workers slots id i : ℕ) (herald : HeraldView) → i < length herald.found
     → Allows (KeepsEpochs workers) slots id (OfHerald herald, []) i (λ n. n) (LoadsSeen (step slots i 0 0 none) (OfHerald herald, []))
 loads_seen_at workers slots id i herald l s rule _ at _ = let k : IsHeraldView s.words workers (length s.views) id herald = rule.known id (OfHerald herald) at in let n : ℕ = get_or s.words i 0 in
-    let near : IsPostedOrOneLess n (get_or s.words workers 0) = rule.within_one_epoch i (omega (arith, k.found_each)) in let after : HeraldView = record herald { found = set herald.found i n; looks = herald.looks + 1; looked_at = i } in (
-      OfHerald after,
-      keeps,
-      tt,
-      loaded_keeps workers s rule i s.homes id (OfHerald after) record {
-        position_is = k.position_is;
-        positions_are = k.positions_are;
-        found_each = length-set herald.found i n ∙ k.found_each;
-        posted_is = k.posted_is;
-        found_since = λ j h. dite (ℕ_discrete j i)
-            (λ e. subst (λ (m : ℕ). get_or (set herald.found i n) m 0 ≤ get_or s.words m 0) (sym e) (let same = get_or-set_same herald.found i n 0 l in omega (arith, same)))
-            (λ ne. subst (λ (m : ℕ). m ≤ get_or s.words j 0) (sym (get_or-set_other herald.found i j n 0 ne)) (k.found_since j h));
-        undealt_is = k.undealt_is;
-      },
-      (refl, subst (λ (m : ℕ). IsPostedOrOneLess n m) k.posted_is near, k.found_since i (omega (arith, k.found_each))),
-    )
+    let near : IsPostedOrOneLess n (get_or s.words workers 0) = rule.within_one_epoch i (omega (arith, k.found_each)) in let after : HeraldView = record herald { found = set herald.found i n; looks = herald.looks + 1; looked_at = i } in
+    let kept =
+    loaded_keeps workers s rule i s.homes id (OfHerald after) record {
+      position_is = k.position_is;
+      positions_are = k.positions_are;
+      found_each = length-set herald.found i n ∙ k.found_each;
+      posted_is = k.posted_is;
+      found_since = λ j h. dite (ℕ_discrete j i)
+          (λ e. subst (λ (m : ℕ). get_or (set herald.found i n) m 0 ≤ get_or s.words m 0) (sym e) (let same = get_or-set_same herald.found i n 0 l in omega (arith, same)))
+          (λ ne. subst (λ (m : ℕ). m ≤ get_or s.words j 0) (sym (get_or-set_other herald.found i j n 0 ne)) (k.found_since j h));
+      undealt_is = k.undealt_is;
+    } in
+    (OfHerald after, keeps, tt, kept, (refl, subst (λ (m : ℕ). IsPostedOrOneLess n m) k.posted_is near, k.found_since i (omega (arith, k.found_each))))
 
 pub loads_seen : (key slots id i : ℕ) (me : Holder) (herald : HeraldView) → me ≡ (OfHerald herald, []) → i < length herald.found
     → Allows (KeepsEpochs key) slots id me i (λ n. n) (LoadsSeen (step slots i 0 0 none) me)
@@ -161,24 +152,21 @@ stores_posted_at : (workers slots id : ℕ) (herald : HeraldView) → FoundAll w
 stores_posted_at workers slots id herald all s rule _ at _ = let k : IsHeraldView s.words workers (length s.views) id herald = rule.known id (OfHerald herald) at in let n : ℕ = herald.posted + 1 in let after : List ℕ = set s.words workers n in
     let next : View = OfHerald (record herald { posted = n }) in
     let raised : get_or after workers 0 ≡ n = get_or-set_same s.words workers n 0 (omega (arith, rule.words_are)) in
-    let there : (j : ℕ) → j < workers → get_or after j 0 ≡ get_or s.words j 0 = λ j l. get_or-set_other s.words workers j n 0 (λ e. omega arith) in (
-      next,
-      keeps,
-      tt,
-      stepped_keeps workers s rule after s.homes id next (length-set s.words workers n)
-          (λ j l. let old : IsPostedOrOneLess (get_or s.words j 0) (get_or s.words workers 0) = rule.within_one_epoch j l in let since = k.found_since j l in
-          let now : get_or herald.found j 0 ≡ herald.posted = all j l in (omega (arith, there j l, raised, old.0, k.posted_is), omega (arith, there j l, raised, since, now)))
-          record {
-            position_is = k.position_is;
-            positions_are = k.positions_are;
-            found_each = k.found_each;
-            posted_is = raised;
-            found_since = λ j l. subst (λ (m : ℕ). get_or herald.found j 0 ≤ m) (sym (there j l)) (k.found_since j l);
-            undealt_is = λ j l h. there j h ∙ k.undealt_is j l h;
-          }
-          (λ j v ne o. raised_others workers s.words (length s.views) n raised there (omega (arith, k.posted_is)) j v (λ e. ne (e ∙ sym k.position_is)) o),
-      refl,
-    )
+    let there : (j : ℕ) → j < workers → get_or after j 0 ≡ get_or s.words j 0 = λ j l. get_or-set_other s.words workers j n 0 (λ e. omega arith) in
+    let kept =
+    stepped_keeps workers s rule after s.homes id next (length-set s.words workers n)
+    (λ j l. let old : IsPostedOrOneLess (get_or s.words j 0) (get_or s.words workers 0) = rule.within_one_epoch j l in let since = k.found_since j l in
+    let now : get_or herald.found j 0 ≡ herald.posted = all j l in (omega (arith, there j l, raised, old.0, k.posted_is), omega (arith, there j l, raised, since, now)))
+    record {
+      position_is = k.position_is;
+      positions_are = k.positions_are;
+      found_each = k.found_each;
+      posted_is = raised;
+      found_since = λ j l. subst (λ (m : ℕ). get_or herald.found j 0 ≤ m) (sym (there j l)) (k.found_since j l);
+      undealt_is = λ j l h. there j h ∙ k.undealt_is j l h;
+    }
+    (λ j v ne o. raised_others workers s.words (length s.views) n raised there (omega (arith, k.posted_is)) j v (λ e. ne (e ∙ sym k.position_is)) o) in
+    (next, keeps, tt, kept, refl)
 
 pub stores_posted : (key workers slots id next : ℕ) (me : Holder) (herald : HeraldView) → key ≡ workers → next ≡ herald.posted + 1 → me ≡ (OfHerald herald, []) → FoundAll workers herald.posted herald.found
     → Allows (KeepsEpochs key) slots id me workers (λ _. next) (λ _. StoresPosted (step slots workers next 0 none) me next)

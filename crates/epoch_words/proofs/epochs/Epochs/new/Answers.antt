@@ -1,4 +1,4 @@
-use Rattle.std.proofs.Common.{◌≡◌, ◌+◌, refl, ap, arith, sym, ◌∙◌}
+use Rattle.std.proofs.Common.{◌≡◌, ◌+◌, ap, arith, rules, sym, ◌∙◌}
 use Rattle.std.proofs.Math.Nat.{zero-add}
 use Rattle.std.proofs.lemmas.List.FromFn.{map-range_with_len_more}
 use Rattle.std.proofs.lemmas.Result.{IfOk-from_err}
@@ -16,16 +16,10 @@ loop-index-preserved c = record {
 }
 
 pub returns-in_err-seats : goal.returns-in_err-seats
-returns-in_err-seats c =
-    let none = IfOk-from_err c.from_residual.result in
-    let err = c.from_residual.ensures.0 in
-    record { epochs = none _ err; herald = none _ err; seats = none _ err }
+returns-in_err-seats c = search (rules, IfOk-from_err)
 
 pub returns-in_err-words : goal.returns-in_err-words
-returns-in_err-words c =
-    let none = IfOk-from_err c.from_residual-in_err-words.result in
-    let err = c.from_residual-in_err-words.ensures.0 in
-    record { epochs = none _ err; herald = none _ err; seats = none _ err }
+returns-in_err-words c = search (rules, IfOk-from_err)
 
 pub returns-clause-seats : goal.returns-clause-seats
 returns-clause-seats c =

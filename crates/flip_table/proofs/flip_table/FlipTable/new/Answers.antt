@@ -1,4 +1,4 @@
-use Rattle.std.proofs.Common.{◌≡◌, ◌+◌, map, refl, ap, arith, sym, ◌∙◌}
+use Rattle.std.proofs.Common.{◌≡◌, ◌+◌, map, refl, ap, arith, rules, sym, ◌∙◌}
 use Rattle.std.proofs.Math.Nat.{zero-add}
 use Rattle.std.proofs.lemmas.List.FromFn.{map-range_with_len_more}
 use Rattle.std.proofs.lemmas.Result.{IfOk-from_err}
@@ -19,16 +19,10 @@ loop-index-preserved c = record {
 }
 
 pub returns-in_err-writers : goal.returns-in_err-writers
-returns-in_err-writers c =
-    let none = IfOk-from_err c.from_residual.result in
-    let err = c.from_residual.ensures.0 in
-    record { table = none _ err; copier = none _ err; writers = none _ err }
+returns-in_err-writers c = search (rules, IfOk-from_err)
 
 pub returns-in_err-words : goal.returns-in_err-words
-returns-in_err-words c =
-    let none = IfOk-from_err c.from_residual-in_err-words.result in
-    let err = c.from_residual-in_err-words.ensures.0 in
-    record { table = none _ err; copier = none _ err; writers = none _ err }
+returns-in_err-words c = search (rules, IfOk-from_err)
 
 pub deal_writer-requires-clause-words : goal.deal_writer-requires-clause-words
 deal_writer-requires-clause-words c = (c.loop-index.invariant.same_table, rw c.in_ok-words.ensures.words.0 (some_words _))
