@@ -36,18 +36,7 @@ lines_alike tree (NamedKind.Static code) (KindOf.Static body) is = is.operations
 lines_alike tree (NamedKind.Instance code) (KindOf.Instance body) is = is.operations
 lines_alike tree (NamedKind.Virtual b code) (KindOf.Virtual d body) is = is.1.operations
 lines_alike tree (NamedKind.Abstract b) (KindOf.Abstract d) is = tt
-lines_alike tree (NamedKind.Static code) (KindOf.Instance body) is = elim is [ ]
-lines_alike tree (NamedKind.Static code) (KindOf.Virtual d body) is = elim is [ ]
-lines_alike tree (NamedKind.Static code) (KindOf.Abstract d) is = elim is [ ]
-lines_alike tree (NamedKind.Instance code) (KindOf.Static body) is = elim is [ ]
-lines_alike tree (NamedKind.Instance code) (KindOf.Virtual d body) is = elim is [ ]
-lines_alike tree (NamedKind.Instance code) (KindOf.Abstract d) is = elim is [ ]
-lines_alike tree (NamedKind.Virtual b code) (KindOf.Static body) is = elim is [ ]
-lines_alike tree (NamedKind.Virtual b code) (KindOf.Instance body) is = elim is [ ]
-lines_alike tree (NamedKind.Virtual b code) (KindOf.Abstract d) is = elim is [ ]
-lines_alike tree (NamedKind.Abstract b) (KindOf.Static body) is = elim is [ ]
-lines_alike tree (NamedKind.Abstract b) (KindOf.Instance body) is = elim is [ ]
-lines_alike tree (NamedKind.Abstract b) (KindOf.Virtual d body) is = elim is [ ]
+lines_alike tree _ _ is = absurd is
 
 -- the lines of a method, linked
 module _ (tree : Tree) (found : ClassName × Method) where

@@ -42,18 +42,7 @@ module _ (tree : Tree) where
   counted (Named.Instance code) (KindOf.Instance body) n t ts h e = omega arith
   counted (Named.Virtual a code) (KindOf.Virtual b body) n t ts h e = omega arith
   counted (Named.Abstract a) (KindOf.Abstract b) n t ts h e = omega arith
-  counted (Named.Static code) (KindOf.Instance body) n t ts h e = absurd h
-  counted (Named.Static code) (KindOf.Virtual b body) n t ts h e = absurd h
-  counted (Named.Static code) (KindOf.Abstract b) n t ts h e = absurd h
-  counted (Named.Instance code) (KindOf.Static body) n t ts h e = absurd h
-  counted (Named.Instance code) (KindOf.Virtual b body) n t ts h e = absurd h
-  counted (Named.Instance code) (KindOf.Abstract b) n t ts h e = absurd h
-  counted (Named.Virtual a code) (KindOf.Static body) n t ts h e = absurd h
-  counted (Named.Virtual a code) (KindOf.Instance body) n t ts h e = absurd h
-  counted (Named.Virtual a code) (KindOf.Abstract b) n t ts h e = absurd h
-  counted (Named.Abstract a) (KindOf.Static body) n t ts h e = absurd h
-  counted (Named.Abstract a) (KindOf.Instance body) n t ts h e = absurd h
-  counted (Named.Abstract a) (KindOf.Virtual b body) n t ts h e = absurd h
+  counted _ _ n t ts h e = absurd h
 
   body_kinds : (code : Code) (body : Body) → IsBody tree code body → map kind_of_type (types_named tree body.locals) ≡ map kind_of_type (code.locals ++ [])
   body_kinds code body h = ap (map kind_of_type) (types_are_named tree body.locals code.locals h.locals) ∙ ap (map kind_of_type) (sym (append-nil code.locals))
@@ -63,18 +52,7 @@ module _ (tree : Tree) where
   locals_by (Named.Instance code) (KindOf.Instance body) h = body_kinds code body h
   locals_by (Named.Virtual a code) (KindOf.Virtual b body) h = body_kinds code body h.1
   locals_by (Named.Abstract a) (KindOf.Abstract b) h = refl
-  locals_by (Named.Static code) (KindOf.Instance body) h = absurd h
-  locals_by (Named.Static code) (KindOf.Virtual b body) h = absurd h
-  locals_by (Named.Static code) (KindOf.Abstract b) h = absurd h
-  locals_by (Named.Instance code) (KindOf.Static body) h = absurd h
-  locals_by (Named.Instance code) (KindOf.Virtual b body) h = absurd h
-  locals_by (Named.Instance code) (KindOf.Abstract b) h = absurd h
-  locals_by (Named.Virtual a code) (KindOf.Static body) h = absurd h
-  locals_by (Named.Virtual a code) (KindOf.Instance body) h = absurd h
-  locals_by (Named.Virtual a code) (KindOf.Abstract b) h = absurd h
-  locals_by (Named.Abstract a) (KindOf.Static body) h = absurd h
-  locals_by (Named.Abstract a) (KindOf.Instance body) h = absurd h
-  locals_by (Named.Abstract a) (KindOf.Virtual b body) h = absurd h
+  locals_by _ _ h = absurd h
 
   module _ (m : Method) (r : ResolvedMethod) (is : IsResolvedMethod tree m r) where
     -- how many operands a call takes
