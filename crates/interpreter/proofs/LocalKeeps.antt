@@ -9,7 +9,7 @@ use Rattle.cil_model.specs.declared.limits.TheConstants.{MOST_INSTRUCTIONS}
 use Rattle.cil_model.specs.declared.reports.Fault.{Fault}
 use Rattle.cil_model.specs.Bodies.{at_index}
 use Rattle.object_memory.specs.declared.values.Value.{Value}
-use Rattle.object_memory.specs.declared.values.Value.TheVariants.{Int32, Int64, Native, Ref}
+use Rattle.object_memory.specs.declared.values.Value.TheVariants.{Int32, Int64}
 use Rattle.cil_model.specs.declared.instructions.BranchCondition.TheVariants as conditions
 use Rattle.loaded_program.specs.declared.instructions.LinkedInstruction.{LinkedInstruction}
 use Rattle.loaded_program.specs.declared.instructions.LinkedInstruction.TheVariants as Linked
@@ -84,9 +84,7 @@ module _ (plain : Bool) where
 
   switch_keeps : (pcs : List ℕ) (v : Value) (m : Frames) → TransitionKeeps plain m (switch_on pcs v m)
   switch_keeps pcs (Int32 z) m = pc_keeps (slice_get pcs (cast_unsigned w32 z)) m
-  switch_keeps pcs (Int64 z) m = none_keeps m
-  switch_keeps pcs (Native z) m = none_keeps m
-  switch_keeps pcs (Ref a) m = none_keeps m
+  switch_keeps pcs _ m = none_keeps m
 
   one_keeps : {X : Type 0} (f : Value → Option X) (go : X → Frames → Transition) → ((x : X) (k : Frames) → TransitionKeeps plain k (go x k)) → (m : Frames) → TransitionKeeps plain m (with_top m (λ v n. when_some (f v) (λ x. go x n)))
   one_keeps f go keeps m = top_keeps m (λ v n. when_some (f v) (λ x. go x n)) (λ v rest. given_keeps (f v) (with_stack m rest) (λ x. go x (with_stack m rest)) (λ x. keeps x (with_stack m rest)))

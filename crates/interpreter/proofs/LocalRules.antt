@@ -13,7 +13,7 @@ use Rattle.cil_model.specs.declared.trees.Tree.{Tree}
 use Rattle.cil_model.specs.Bodies.{at_index}
 use Rattle.object_memory.specs.declared.addresses.Addr.{Addr}
 use Rattle.object_memory.specs.declared.values.Value.{Value}
-use Rattle.object_memory.specs.declared.values.Value.TheVariants.{Int32, Int64, Native, Ref}
+use Rattle.object_memory.specs.declared.values.Value.TheVariants.{Int32, Int64, Ref}
 use Rattle.object_memory.specs.Objects.{Objects}
 use Rattle.instructions.specs.barriers.Barriers.{are_comparable}
 use Rattle.cil_model.specs.declared.instructions.BranchCondition.TheVariants as conditions
@@ -88,9 +88,7 @@ module _ (below : List Frame) (depth : ℕ) where
 
   switch_moves : (pcs : List ℕ) (v : Value) (m : Frames) → switch_on pcs v (moved m) ≡ moved_transition (switch_on pcs v m)
   switch_moves pcs (Int32 z) m = pc_moves (slice_get pcs (cast_unsigned w32 z)) m
-  switch_moves pcs (Int64 z) m = refl
-  switch_moves pcs (Native z) m = refl
-  switch_moves pcs (Ref a) m = refl
+  switch_moves pcs _ m = refl
 
   -- one value for another
   one_moves : {X : Type 0} (f : Value → Option X) (go : X → Frames → Transition) → ((x : X) (k : Frames) → go x (moved k) ≡ moved_transition (go x k)) → (m : Frames) →
@@ -147,48 +145,17 @@ module _ (phase : Phase) (o : Objects) where
   ordered_references Compare.Less e a b = choose_none (are_comparable phase o a b)
 
   compared_is : (op : Comparison) → is_ordered op ≡ true → (v w : Value) → comparison phase o op v w ≡ integers_compared op v w
-  compared_is op e (Int32 x) (Int32 y) = refl
-  compared_is op e (Int32 x) (Int64 y) = refl
-  compared_is op e (Int32 x) (Native y) = refl
-  compared_is op e (Int32 x) (Ref y) = refl
-  compared_is op e (Int64 x) (Int32 y) = refl
-  compared_is op e (Int64 x) (Int64 y) = refl
-  compared_is op e (Int64 x) (Native y) = refl
-  compared_is op e (Int64 x) (Ref y) = refl
-  compared_is op e (Native x) (Int32 y) = refl
-  compared_is op e (Native x) (Int64 y) = refl
-  compared_is op e (Native x) (Native y) = refl
-  compared_is op e (Native x) (Ref y) = refl
-  compared_is op e (Ref x) (Int32 y) = refl
-  compared_is op e (Ref x) (Int64 y) = refl
-  compared_is op e (Ref x) (Native y) = refl
   compared_is op e (Ref x) (Ref y) = ordered_references op e x y
+  compared_is op e _ _ = refl
 
   ordered_branches : (op : BranchComparison) → is_ordered_branch op ≡ true → (a b : Addr) → branch_test phase o op (Ref a) (Ref b) ≡ None
   ordered_branches Branch.Equal e a b = absurd cc
   ordered_branches Branch.NotEqual e a b = absurd cc
-  ordered_branches Branch.GreaterOrEqual e a b = choose_none (are_comparable phase o a b)
-  ordered_branches Branch.Greater e a b = choose_none (are_comparable phase o a b)
-  ordered_branches Branch.LessOrEqual e a b = choose_none (are_comparable phase o a b)
-  ordered_branches Branch.Less e a b = choose_none (are_comparable phase o a b)
+  ordered_branches _ e a b = choose_none (are_comparable phase o a b)
 
   tested_is : (op : BranchComparison) → is_ordered_branch op ≡ true → (v w : Value) → branch_test phase o op v w ≡ integers_branch op v w
-  tested_is op e (Int32 x) (Int32 y) = refl
-  tested_is op e (Int32 x) (Int64 y) = refl
-  tested_is op e (Int32 x) (Native y) = refl
-  tested_is op e (Int32 x) (Ref y) = refl
-  tested_is op e (Int64 x) (Int32 y) = refl
-  tested_is op e (Int64 x) (Int64 y) = refl
-  tested_is op e (Int64 x) (Native y) = refl
-  tested_is op e (Int64 x) (Ref y) = refl
-  tested_is op e (Native x) (Int32 y) = refl
-  tested_is op e (Native x) (Int64 y) = refl
-  tested_is op e (Native x) (Native y) = refl
-  tested_is op e (Native x) (Ref y) = refl
-  tested_is op e (Ref x) (Int32 y) = refl
-  tested_is op e (Ref x) (Int64 y) = refl
-  tested_is op e (Ref x) (Native y) = refl
   tested_is op e (Ref x) (Ref y) = ordered_branches op e x y
+  tested_is op e _ _ = refl
 
   -- two operands, by two tests that agree
   two_alike : {X : Type 0} (f g : Value → Value → Option X) (go : X → Frames → Transition) → ((v w : Value) → f v w ≡ g v w) → (m : Frames) →
@@ -212,25 +179,6 @@ module _ (phase : Phase) (o : Objects) where
 module _ (tree : Tree) (mutator : Mutator) (m : Frames) (o : Objects) (ss : List Value) (c : List ℕ) where
   -- what a linked one does is what it does to the frames
   pub local_is : (l : LinkedInstruction) → is_local_link l ≡ true → linked_transition tree mutator l m o ss c ≡ of_frames o ss c (local_link_transition l m)
-  local_is Linked.NoOperation e = refl
-  local_is (Linked.LoadInt32 z) e = refl
-  local_is (Linked.LoadInt64 z) e = refl
-  local_is Linked.LoadNull e = refl
-  local_is (Linked.LoadArgument n) e = refl
-  local_is (Linked.StoreArgument n) e = refl
-  local_is (Linked.LoadLocal n) e = refl
-  local_is (Linked.StoreLocal n) e = refl
-  local_is Linked.Duplicate e = refl
-  local_is Linked.Pop e = refl
-  local_is (Linked.Binary op) e = refl
-  local_is (Linked.Unary op) e = refl
-  local_is (Linked.Shift op) e = refl
   local_is (Linked.Compare op) e = ap (of_frames o ss c) (compare_is mutator.phase o op e m)
-  local_is Linked.ConvertInt32 e = refl
-  local_is Linked.ConvertInt64 e = refl
-  local_is (Linked.Branch conditions.Always pc) e = refl
-  local_is (Linked.Branch conditions.IfTrue pc) e = refl
-  local_is (Linked.Branch conditions.IfFalse pc) e = refl
   local_is (Linked.Branch (conditions.Compare op) pc) e = ap (of_frames o ss c) (branch_is mutator.phase o op e pc m)
-  local_is (Linked.Switch pcs) e = refl
-  local_is _ e = absurd cc
+  local_is _ e = cc
