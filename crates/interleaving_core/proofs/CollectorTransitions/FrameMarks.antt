@@ -75,10 +75,8 @@ cycle_kept (b ∷ list) o e = cycle_kept list (with_marked o (Ref b)) (open_kept
 -- of values, by their references
 pub values_marked : (vs : List Value) (o : Objects) → with_all_marked o vs ≡ with_roots_marked o (filter_map reference_in vs)
 values_marked [] o = refl
-values_marked (Int32 n ∷ vs) o = values_marked vs o
-values_marked (Int64 n ∷ vs) o = values_marked vs o
-values_marked (Native n ∷ vs) o = values_marked vs o
 values_marked (Ref a ∷ vs) o = values_marked vs (with_marked o (Ref a))
+values_marked (_ ∷ vs) o = values_marked vs o
 
 -- of one list after another
 pub both_marked : (xs ys : List Addr) (o : Objects) → with_roots_marked o (xs ++ ys) ≡ with_roots_marked (with_roots_marked o xs) ys

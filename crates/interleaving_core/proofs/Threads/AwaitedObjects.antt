@@ -1,5 +1,5 @@
 -- What a thread is about to enter or to join is there, and what its instruction calls is known to the table.
-use Rattle.std.proofs.Common.{◌≡◌, ◌≢◌, ◌==◌, ◌<◌, ℕ, Bool, true, false, ◌&&◌, ◌||◌, if◌then◌else◌, List, [], ◌∷◌, length, Option, Some, None, option_map, option_and_then, slice_get, refl, sym, ap, ◌∙◌, subst}
+use Rattle.std.proofs.Common.{◌≡◌, ◌≢◌, ◌==◌, ◌<◌, ℕ, Bool, true, false, ◌&&◌, ◌||◌, if◌then◌else◌, List, ◌∷◌, length, Option, Some, None, option_map, option_and_then, slice_get, refl, sym, ap, ◌∙◌, subst}
 use Rattle.std.specs.Prelude.{IsSome}
 use Rattle.std.specs.Option.{option_map_or}
 use Rattle.std.proofs.lemmas.Bool.{eqb-true}
@@ -32,7 +32,7 @@ use Rattle.resolved_code.specs.declared.operations.Operation.TheVariants as Reso
 use Rattle.object_memory.specs.declared.addresses.Addr.{Addr}
 use Rattle.object_memory.specs.declared.monitors.Monitor.{Monitor}
 use Rattle.object_memory.specs.declared.values.Value.{Value}
-use Rattle.object_memory.specs.declared.values.Value.TheVariants.{Int32, Int64, Native, Ref}
+use Rattle.object_memory.specs.declared.values.Value.TheVariants.{Ref}
 use Rattle.object_memory.specs.Cells.{null}
 use Rattle.object_memory.specs.Objects.{Objects, monitor_at, object_slots}
 use Rattle.simulation.specs.loaded_program.MethodNumbers.{number_of}
@@ -115,11 +115,8 @@ not_null_number a apart = by_test (a.number == 0) refl
 module _ (tree : Tree) (mutator : Mutator) (m : Frames) (o : Objects) (ss : List Value) (pr : List ℕ) (a : Action) (x : Addr) (top : top_reference m.running.stack ≡ Some x) (nonzero : IsNot0 x) where
   -- the topmost value is a reference to it
   stack_is : (stack : List Value) → top_reference stack ≡ Some x → (rest : List Value) × (stack ≡ Ref x ∷ rest)
-  stack_is [] e = none_is_some x e
   stack_is (Ref y ∷ rest) e = (rest, ap (λ z. Ref z ∷ rest) (same_Some y x e))
-  stack_is (Int32 z ∷ rest) e = none_is_some x e
-  stack_is (Int64 z ∷ rest) e = none_is_some x e
-  stack_is (Native z ∷ rest) e = none_is_some x e
+  stack_is _ e = none_is_some x e
 
   abbrev acted : MachineTransition
   acted = of_calls o ss pr (act_transition tree mutator a m o pr)
@@ -211,14 +208,11 @@ module _ (c : MachineState) (t left : ℕ) (m : Frames) (ready : IsReady c t m) 
         by_monitor y n same false d e (Some w) there = refl
 
         by_stack : (stack : List Value) → top_reference stack ≡ Some x → IsSome (of_calls c.objects c.statics c.printed (with_console c.printed (reference_from stack m goes))) → IsSome (monitor_at c.objects x)
-        by_stack [] e there = none_is_some x e
-        by_stack (Int32 z ∷ rest) e there = none_is_some x e
-        by_stack (Int64 z ∷ rest) e there = none_is_some x e
-        by_stack (Native z ∷ rest) e there = none_is_some x e
         by_stack (Ref y ∷ rest) e there =
             let same : y ≡ x = same_Some y x e in
             subst (λ k. IsSome (monitor_at c.objects k)) same
             (by_monitor y (with_stack m rest) same (y.number == 0) (is_monitor_storable (mutator_of c t).phase c.objects y) (ap (λ (k : Addr). k.number == 0) same ∙ not_null_number x apart) (monitor_at c.objects y) there)
+        by_stack _ e there = none_is_some x e
 
     -- and the slot that identifies a thread, where it joins
     joins : action_at c.tree m ≡ Some Join → 0 < length (object_slots c.objects x)
