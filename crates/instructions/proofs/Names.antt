@@ -9,7 +9,7 @@ use Rattle.cil_model.specs.Declarations.{object_name}
 use Rattle.cil_model.specs.Assignable.{element_of_class, type_of_class}
 use Rattle.resolved_code.specs.ById.{class_name, element_at, type_at}
 use Rattle.resolved_code.specs.declared.types.ResolvedElement.{ResolvedElement}
-use Rattle.resolved_code.specs.declared.types.ResolvedElement.TheVariants.{Int32, Int64, Object, String, Class}
+use Rattle.resolved_code.specs.declared.types.ResolvedElement.TheVariants.{Class}
 use Rattle.resolved_code.specs.declared.types.ResolvedType.{ResolvedType}
 use Rattle.std.specs.Prelude.{IsSome, ◌==◌, false, if◌then◌else◌, option_and_then}
 use Rattle.cil_model.specs.Assignable.{is_assignable}
@@ -26,11 +26,8 @@ module _ (tree : Tree) where
   named_at (Some c) known = refl
 
   element_there : (r : ResolvedElement) → is_known tree r ≡ true → element_at tree r ≡ Some (element_named tree r)
-  element_there Int32 known = refl
-  element_there Int64 known = refl
-  element_there Object known = refl
-  element_there String known = refl
   element_there (Class n) known = ap (option_map _) (named_at (class_name tree n) known)
+  element_there _ known = refl
 
   -- the type of the objects of a class, by an element that represents it
   pub class_type : (n : ℕ) (r : ResolvedElement) (t : DeclaredType) → (is_some (class_name tree n) ≡ true → element_named tree r ≡ element_of_class (class_named tree n)) → (is_some (class_name tree n) ≡ true → is_known tree r ≡ true)

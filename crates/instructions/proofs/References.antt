@@ -14,7 +14,7 @@ use Rattle.barriers.specs.Barriers.{are_comparable, are_same, is_monitor_storabl
 use Rattle.threads_monitors.specs.Frames.{Frames, with_stack}
 use Rattle.threads_monitors.specs.Monitors.{with_entry, with_exit}
 use Rattle.threads_monitors.specs.declared.effects.Effect.{Effect}
-use Rattle.threads_monitors.specs.declared.effects.Effect.TheVariants.{Continues, Returns, Blocks, Raises}
+use Rattle.threads_monitors.specs.declared.effects.Effect.TheVariants.{Continues}
 use Rattle.threads_monitors.specs.declared.mutators.Mutator.{Mutator}
 use Rattle.instructions.specs.BuiltInTransitions.{pop_if_continues, enter_transition, exit_transition, is_countable, reference_from}
 use Rattle.instructions.specs.Frames.{branch_reference, branch_test, comparison, same_reference}
@@ -29,9 +29,7 @@ module _ (phase : Phase) (o : Objects) (a b : Addr) where
     where
       by_test : (t : Bool) (op : Comparison) → IsSome (if t then same_reference op (are_same phase o a b) else None) → (if t then same_reference op (are_same phase o a b) else None) ≡ Some (are_same phase o a b)
       by_test true Compare.Equal h = refl
-      by_test true Compare.Greater h = absurd cc
-      by_test true Compare.Less h = absurd cc
-      by_test false op h = absurd cc
+      by_test _ _ h = absurd cc
 
   -- and branches are taken on that alone
   pub never_ordered : (op : BranchComparison) → IsSome (branch_test phase o op (Ref a) (Ref b)) → (op ≡ Branch.Equal → ⊥) → (op ≡ Branch.NotEqual → ⊥) → ⊥
@@ -40,20 +38,14 @@ module _ (phase : Phase) (o : Objects) (a b : Addr) where
       by_test : (t : Bool) (op : BranchComparison) → IsSome (if t then branch_reference op (are_same phase o a b) else None) → (op ≡ Branch.Equal → ⊥) → (op ≡ Branch.NotEqual → ⊥) → ⊥
       by_test true Branch.Equal h equal other = equal refl
       by_test true Branch.NotEqual h equal other = other refl
-      by_test true Branch.GreaterOrEqual h equal other = cc
-      by_test true Branch.Greater h equal other = cc
-      by_test true Branch.LessOrEqual h equal other = cc
-      by_test true Branch.Less h equal other = cc
-      by_test false op h equal other = cc
+      by_test _ _ h equal other = cc
 
 -- ---- exits
 
 -- where the thread doesn't continue its operand stays
 carried_stays : (m n : Frames) (x : Objects × Effect) → (x.1 ≡ Continues → ⊥) → pop_if_continues m n x ≡ Some (m, x.0, x.1)
 carried_stays m n (o, Continues) other = absurd (other refl)
-carried_stays m n (o, Returns) other = refl
-carried_stays m n (o, Blocks) other = refl
-carried_stays m n (o, Raises f) other = refl
+carried_stays m n (o, _) other = refl
 
 -- a rule of an entry or an exit, by which references it admits, and what it makes of the objects
 module _ (admits : Addr → Bool) (change : Addr → Objects × Effect) (m : Frames) where

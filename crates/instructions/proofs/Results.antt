@@ -1,8 +1,9 @@
 -- The results of checked operations and divisions of integers.
-use Rattle.std.proofs.Common.{◌≡◌, ◌⊎◌, inl, inr, ℕ, zero, suc, ◌-◌, ◌/◌, ◌^◌, ℤ, pos, negsuc, neg_ℤ, int_div, Bool, true, false, ◌&&◌, if◌then◌else◌, Option, Some, None, Result, Ok, Err, SomeIff, ok_or, SFits, to_z, of_z, refl, sym, ap, subst, ◌∙◌, arith}
+use Rattle.std.proofs.Common.{◌≡◌, ◌⊎◌, inl, inr, ℕ, zero, suc, ◌-◌, ◌/◌, ◌^◌, ℤ, pos, negsuc, neg_ℤ, int_div, true, false, ◌&&◌, if◌then◌else◌, Option, Some, None, Result, Ok, Err, SomeIff, ok_or, SFits, to_z, of_z, refl, sym, ap, subst, ◌∙◌, arith}
 use Rattle.std.specs.Int.{Width, w32, w64}
 use Rattle.std.specs.Ordering.{int_eq}
 use Rattle.std.proofs.lemmas.Int.{to_z-of_z}
+use Rattle.std.proofs.lemmas.Bool.{and_parts, false_from_ne_true}
 use Rattle.std.proofs.lemmas.Bool.Decides.{nat_tests, Decides-int_eq}
 use native.Mathlib.Nat.{div-le_self, div-lt_self, div-one}
 use lib.Signed.{mag}
@@ -10,17 +11,10 @@ use mir.Val.{bits, hbits}
 use mir.ValLaws.{pow-bits}
 use Rattle.cil_model.specs.declared.reports.Fault.{Fault}
 use Rattle.cil_model.specs.declared.reports.Fault.TheVariants.{Overflow, DivideByZero, Arithmetic}
-use Rattle.reference_machine.specs.Arithmetic.{is_in_range, exact, result_as, quotient, least}
+use Rattle.cil_model.specs.declared.instructions.BinaryOperation.{BinaryOperation}
+use Rattle.reference_machine.specs.Arithmetic.{binary, is_in_range, exact, result_as, quotient, least}
 
 -- ---- tests
-
-not_true : (b : Bool) → (b ≡ true → ⊥) → b ≡ false
-not_true true never = absurd (never refl)
-not_true false never = refl
-
-both_true : (a b : Bool) → (a && b) ≡ true → (a ≡ true) × (b ≡ true)
-both_true true b e = (refl, e)
-both_true false b e = absurd cc
 
 -- what the tests of an integer's bits say of it
 pub record HasTests (w : Width) : Type 0 where
@@ -45,10 +39,10 @@ in_64 (pos n) e = record { sfits = grind (arith, nat_tests) }
 in_64 (negsuc n) e = record { sfits = grind (arith, nat_tests) }
 
 pub tests_32 : HasTests w32
-tests_32 = record { fits = fits_32; kind_mismatches = λ z never. not_true (is_in_range w32 z) (λ e. never (in_32 z e)); lowest = refl }
+tests_32 = record { fits = fits_32; kind_mismatches = λ z never. false_from_ne_true (is_in_range w32 z) (λ e. never (in_32 z e)); lowest = refl }
 
 pub tests_64 : HasTests w64
-tests_64 = record { fits = fits_64; kind_mismatches = λ z never. not_true (is_in_range w64 z) (λ e. never (in_64 z e)); lowest = refl }
+tests_64 = record { fits = fits_64; kind_mismatches = λ z never. false_from_ne_true (is_in_range w64 z) (λ e. never (in_64 z e)); lowest = refl }
 
 -- ---- quotients
 
@@ -93,10 +87,27 @@ module _ (w : Width) where
 
   pub divides : HasTests w → (x y result : ℤ) → (of_z w y ≡ 0 → ⊥) → (of_z w y ≡ 2 ^ bits w - 1 → of_z w x ≡ 2 ^ hbits w → ⊥) → quotient w x y result ≡ Ok result
   divides tests x y result some never =
-      let divisor : int_eq y (pos 0) ≡ false = not_true (int_eq y (pos 0)) (λ e. some (ap (of_z w) ((Decides-int_eq y (pos 0)).0 e))) in
+      let divisor : int_eq y (pos 0) ≡ false = false_from_ne_true (int_eq y (pos 0)) (λ e. some (ap (of_z w) ((Decides-int_eq y (pos 0)).0 e))) in
       let rest : (int_eq x (least w) && int_eq y (negsuc 0)) ≡ false =
-      not_true (int_eq x (least w) && int_eq y (negsuc 0)) (λ e.
-      never (ap (of_z w) ((Decides-int_eq y (negsuc 0)).0 (both_true (int_eq x (least w)) (int_eq y (negsuc 0)) e).1))
-      (ap (of_z w) ((Decides-int_eq x (least w)).0 (both_true (int_eq x (least w)) (int_eq y (negsuc 0)) e).0) ∙ tests.lowest)) in
+      false_from_ne_true (int_eq x (least w) && int_eq y (negsuc 0)) (λ e.
+      never (ap (of_z w) ((Decides-int_eq y (negsuc 0)).0 (and_parts (int_eq x (least w)) (int_eq y (negsuc 0)) e).1))
+      (ap (of_z w) ((Decides-int_eq x (least w)).0 (and_parts (int_eq x (least w)) (int_eq y (negsuc 0)) e).0) ∙ tests.lowest)) in
       ap (λ b. if b then Err DivideByZero else (if int_eq x (least w) && int_eq y (negsuc 0) then Err Arithmetic else Ok result)) divisor
       ∙ ap (λ b. if b then Err Arithmetic else Ok result) rest
+
+  -- ---- the results of an operation on two integers, which the machine computes on their bits
+
+  module _ (tests : HasTests w) (op : BinaryOperation) (x y : ℤ) (fits_x : SFits w x) (fits_y : SFits w y) where
+    pub checked : (f : ℤ → ℤ → ℤ) (o : Option ℤ) (r : Result ℤ Fault) → binary w op x y ≡ exact w (f x y) → SomeIff o (SFits w (f (to_z w (of_z w x)) (to_z w (of_z w y)))) (f (to_z w (of_z w x)) (to_z w (of_z w y)))
+        → r ≡ ok_or o Overflow → result_as (λ z. z) r ≡ binary w op x y
+    checked f o r is some made = exact_is tests (f x y) (f (to_z w (of_z w x)) (to_z w (of_z w y))) o r (read_back f x y fits_x fits_y) some made ∙ sym is
+
+    module _ (result : ℤ) (is : binary w op x y ≡ quotient w x y result) where
+      pub by_divisor : (n : ℕ) → of_z w y ≡ n → quotient w x (to_z w n) result ≡ binary w op x y
+      by_divisor n divisor = sym (is ∙ ap (λ k. quotient w x k result) (read_as y n fits_y divisor))
+
+      pub by_both : (n k : ℕ) → of_z w y ≡ n → of_z w x ≡ k → quotient w (to_z w k) (to_z w n) result ≡ binary w op x y
+      by_both n k divisor value = ap (λ z. quotient w z (to_z w n) result) (sym (read_as x k fits_x value)) ∙ by_divisor n divisor
+
+      pub divided : (of_z w y ≡ 0 → ⊥) → ((of_z w x ≡ 2 ^ hbits w) × (of_z w y ≡ 2 ^ bits w - 1 → ⊥)) ⊎ (of_z w x ≡ 2 ^ hbits w → ⊥) → Ok result ≡ binary w op x y
+      divided some either = sym (is ∙ divides tests x y result some (never_both x y either))
