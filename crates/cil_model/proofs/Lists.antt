@@ -62,9 +62,8 @@ set_is_there (z ∷ zs) (suc n) y x e = set_is_there zs n y x e
 pub set_or_was : {X : Type 0} (xs : List X) (n m : ℕ) (y x : X) → slice_get (slice_set xs n y) m ≡ Some x → (x ≡ y) ⊎ (slice_get xs m ≡ Some x)
 set_or_was [] n m y x e = none_is_some x e
 set_or_was (z ∷ zs) zero zero y x e = inl (sym (same_Some y x e))
-set_or_was (z ∷ zs) zero (suc m) y x e = inr e
-set_or_was (z ∷ zs) (suc n) zero y x e = inr e
 set_or_was (z ∷ zs) (suc n) (suc m) y x e = set_or_was zs n m y x e
+set_or_was _ _ _ _ _ e = inr e
 
 -- what is there may be set again
 pub set_itself : {X : Type 0} (xs : List X) (n : ℕ) (x : X) → slice_get xs n ≡ Some x → slice_set xs n x ≡ xs

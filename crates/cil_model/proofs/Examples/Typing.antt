@@ -55,12 +55,11 @@ low : (s stack : List StackType) → Some (Some s) ≡ Some (Some stack) → pos
 low s stack f h = let P : List StackType → Type 0 = λ x. pos (length x) ≤ℤ pos 2 in subst P (same_Some s stack (same_Some (Some s) (Some stack) f)) h
 
 height : (pc : ℕ) (stack : List StackType) → slice_get sum_typing pc ≡ Some (Some stack) → pos (length stack) ≤ℤ pos 2
-height zero stack f = low [] stack f (le_z_yes tt)
 height (suc zero) stack f = low (i4 ∷ []) stack f (le_z_yes tt)
 height (suc (suc zero)) stack f = low (i4 ∷ i4 ∷ []) stack f (le_z_yes tt)
 height (suc (suc (suc zero))) stack f = low (i4 ∷ []) stack f (le_z_yes tt)
-height (suc (suc (suc (suc zero)))) stack f = low [] stack f (le_z_yes tt)
 height (suc (suc (suc (suc (suc n))))) stack f = none_is_some (Some stack) f
+height _ stack f = low [] stack f (le_z_yes tt)
 
 code_typed : IsCodeTyping sum_program [] None sum_code sum_typing
 code_typed = record { whole = refl; start = refl; height = height; each = each }
