@@ -13,10 +13,7 @@ pub none_is_some : {X A : Type 0} (x : X) → None ≡ Some x → A
 none_is_some x e = absurd (none-some x e)
 
 pub no_item : {X A : Type 0} (x : X) (xs : List X) → x ∷ xs ≡ [] → A
-no_item {X} {A} x xs e = absurd (lost e)
-  where
-    lost : x ∷ xs ≡ [] → ⊥
-    lost h = cc
+no_item x xs e = absurd (cc e)
 
 -- ---- the item at an index
 

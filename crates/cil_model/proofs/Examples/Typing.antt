@@ -45,10 +45,7 @@ each (suc (suc (suc (suc zero)))) line stack e f =
     moved 4 (unlabelled_line Return) line [] stack e f ([], refl, record { falls = λ t. nothing_falls t; branches = λ label c. no_label label c })
   where
     nothing_falls : {A : Type 0} → false ≡ true → A
-    nothing_falls {A} h = absurd (lost h)
-      where
-        lost : false ≡ true → ⊥
-        lost h' = cc
+    nothing_falls h = absurd (cc h)
 each (suc (suc (suc (suc (suc n))))) line stack e f = none_is_some line e
 
 low : (s stack : List StackType) → Some (Some s) ≡ Some (Some stack) → pos (length s) ≤ℤ pos 2 → pos (length stack) ≤ℤ pos 2
