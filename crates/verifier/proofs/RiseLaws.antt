@@ -6,7 +6,7 @@ use Rattle.std.proofs.lemmas.Option.{same_Some}
 use Rattle.cil_model.specs.declared.types.DeclaredType.{DeclaredType}
 use Rattle.cil_model.specs.declared.trees.Tree.{Tree}
 use Rattle.cil_model.specs.Chains.{longest_chain}
-use Rattle.cil_model.specs.TypeTree.{StackType, Declared, NativeInt, Null, parent, ancestor, IsBelow}
+use Rattle.cil_model.specs.TypeTree.{StackType, Declared, Null, parent, ancestor, IsBelow}
 use Rattle.cil_model.specs.Legality.{IsLegal}
 use Rattle.flow_rules.proofs.AncestorChains.{too_far}
 use Rattle.verifier.specs.Rises.{rises_within, most_rises, rises, stack_rises, row_rises, table_rises, most_values}
@@ -78,8 +78,7 @@ module _ (tree : Tree) where
 
   bounded : (a : StackType) → rises tree a ≤ suc (most_rises tree)
   bounded (Declared t) = let lower : rises_within tree (most_rises tree) t ≤ most_rises tree = at_most (most_rises tree) t in omega (arith, lower)
-  bounded NativeInt = omega arith
-  bounded Null = omega arith
+  bounded _ = omega arith
 
   pub stack_bounded : (stack : List StackType) → stack_rises tree stack ≤ length stack * suc (most_rises tree)
   stack_bounded [] = omega arith

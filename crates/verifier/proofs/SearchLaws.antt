@@ -24,9 +24,8 @@ use Rattle.verifier.proofs.TableLaws.{next_way, rise_first, rise_merged, rise_sa
 use Rattle.cil_model.proofs.Lists.{none_is_some, none_is_outside}
 
 map_set : {X Y : Type 0} (f : X → Y) (xs : List X) (n : ℕ) (x : X) → map f (slice_set xs n x) ≡ slice_set (map f xs) n (f x)
-map_set f [] n x = refl
-map_set f (y ∷ ys) zero x = refl
 map_set f (y ∷ ys) (suc n) x = ap (λ zs. f y ∷ zs) (map_set f ys n x)
+map_set _ _ _ _ = refl
 
 pos_within : (n m : ℕ) → n ≤ m → pos n ≤ℤ pos m
 pos_within n m h = grind (arith, ints, h)
@@ -37,11 +36,9 @@ pos_beyond n m h k = grind (arith, ints, h, k)
 -- ---- how many pcs are pending
 
 count_set : (pending : List Bool) (n : ℕ) → count_pending (slice_set pending n true) ≤ count_pending pending + 1
-count_set [] n = omega arith
-count_set (true ∷ rest) zero = omega arith
-count_set (false ∷ rest) zero = omega arith
 count_set (true ∷ rest) (suc n) = let further : count_pending (slice_set rest n true) ≤ count_pending rest + 1 = count_set rest n in omega (arith, further)
 count_set (false ∷ rest) (suc n) = count_set rest n
+count_set _ n = omega arith
 
 pub count_taken : (pending : List Bool) (n : ℕ) → IsPending pending n → count_pending (slice_set pending n false) < count_pending pending
 count_taken [] n e = none_is_some true e

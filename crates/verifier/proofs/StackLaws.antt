@@ -23,17 +23,15 @@ module _ (tree : Tree) where
   below_itself (x ∷ xs) = (reflexive tree x, below_itself xs)
 
   pub below_through : (xs ys zs : List StackType) → AreBelow tree xs ys → AreBelow tree ys zs → AreBelow tree xs zs
-  below_through [] [] zs h k = k
   below_through (x ∷ xs) (y ∷ ys) (z ∷ zs) h k = (transitive tree x y z h.0 k.0, below_through xs ys zs h.1 k.1)
-  below_through (x ∷ xs) (y ∷ ys) [] h k = k
   below_through [] (y ∷ ys) zs h k = absurd h
   below_through (x ∷ xs) [] zs h k = absurd h
+  below_through _ _ _ _ k = k
 
   pub as_high : (xs ys : List StackType) → AreBelow tree xs ys → length xs ≡ length ys
   as_high [] [] h = refl
   as_high (x ∷ xs) (y ∷ ys) h = ap suc (as_high xs ys h.1)
-  as_high [] (y ∷ ys) h = absurd h
-  as_high (x ∷ xs) [] h = absurd h
+  as_high _ _ h = absurd h
 
   -- ---- merges, entry by entry
 
@@ -45,35 +43,23 @@ module _ (tree : Tree) where
   pub one_more : (xs ys ms : List StackEntry) (x y m : StackEntry) → AllMerged xs ys ms → IsMerge tree (stack_type tree x) (stack_type tree y) (stack_type tree m) → AllMerged (xs ++ x ∷ []) (ys ++ y ∷ []) (ms ++ m ∷ [])
   one_more [] [] [] x y m h k = (k, tt)
   one_more (a ∷ as') (b ∷ bs) (c ∷ cs) x y m h k = (h.0, one_more as' bs cs x y m h.1 k)
-  one_more [] [] (c ∷ cs) x y m h k = absurd h
-  one_more [] (b ∷ bs) ms x y m h k = absurd h
-  one_more (a ∷ as') [] ms x y m h k = absurd h
-  one_more (a ∷ as') (b ∷ bs) [] x y m h k = absurd h
+  one_more _ _ _ _ _ _ h _ = absurd h
 
   above_first : (xs ys ms : List StackEntry) → AllMerged xs ys ms → AreBelow tree (stack_types tree xs) (stack_types tree ms)
   above_first [] [] [] h = tt
   above_first (a ∷ as') (b ∷ bs) (c ∷ cs) h = (h.0.above_first, above_first as' bs cs h.1)
-  above_first [] [] (c ∷ cs) h = absurd h
-  above_first [] (b ∷ bs) ms h = absurd h
-  above_first (a ∷ as') [] ms h = absurd h
-  above_first (a ∷ as') (b ∷ bs) [] h = absurd h
+  above_first _ _ _ h = absurd h
 
   above_second : (xs ys ms : List StackEntry) → AllMerged xs ys ms → AreBelow tree (stack_types tree ys) (stack_types tree ms)
   above_second [] [] [] h = tt
   above_second (a ∷ as') (b ∷ bs) (c ∷ cs) h = (h.0.above_second, above_second as' bs cs h.1)
-  above_second [] [] (c ∷ cs) h = absurd h
-  above_second [] (b ∷ bs) ms h = absurd h
-  above_second (a ∷ as') [] ms h = absurd h
-  above_second (a ∷ as') (b ∷ bs) [] h = absurd h
+  above_second _ _ _ h = absurd h
 
   least : (xs ys ms : List StackEntry) → AllMerged xs ys ms → (above : List StackType) → AreBelow tree (stack_types tree xs) above → AreBelow tree (stack_types tree ys) above → AreBelow tree (stack_types tree ms) above
   least [] [] [] h above one other = one
   least (a ∷ as') (b ∷ bs) (c ∷ cs) h (u ∷ us) one other = (h.0.least u one.0 other.0, least as' bs cs h.1 us one.1 other.1)
   least (a ∷ as') (b ∷ bs) (c ∷ cs) h [] one other = absurd one
-  least [] [] (c ∷ cs) h above one other = absurd h
-  least [] (b ∷ bs) ms h above one other = absurd h
-  least (a ∷ as') [] ms h above one other = absurd h
-  least (a ∷ as') (b ∷ bs) [] h above one other = absurd h
+  least _ _ _ h _ _ _ = absurd h
 
   pub whole : (xs ys ms : List StackEntry) → AllMerged xs ys ms → AreMerged tree (stack_types tree xs) (stack_types tree ys) (stack_types tree ms)
   whole xs ys ms h = record { above_first = above_first xs ys ms h; above_second = above_second xs ys ms h; least = least xs ys ms h }
@@ -142,8 +128,7 @@ module _ (tree : Tree) where
     where
       same : (h b : Bool) → IsKept h ms xs → IsOneKept b m x → h || b ≡ false → ms ++ m ∷ [] ≡ xs ++ x ∷ []
       same false false k l e = ap (λ v. v ++ m ∷ []) (k.0 refl) ∙ ap (λ v. xs ++ v ∷ []) (l.0 refl)
-      same false true k l e = absurd (cc e)
-      same true b k l e = absurd (cc e)
+      same _ _ k l e = absurd (cc e)
 
       sums : stack_rises tree (stack_types tree ms) + rises tree (stack_type tree m) < stack_rises tree (stack_types tree xs) + rises tree (stack_type tree x) →
           stack_rises tree (stack_types tree (ms ++ m ∷ [])) < stack_rises tree (stack_types tree (xs ++ x ∷ []))

@@ -135,6 +135,5 @@ module _ (tree : Tree) (members : List MethodId) (typings : List (List (Option (
       IsRefusalOf n error refusal → AreVerdicts tree (Err refusal)
   next_refused (OfMethod.Untyped reported_of) (NoTyping method failure) reported is =
       subst (IsFirstUntyped tree) (sym is.0) (first_untyped tree typings kept n there.0 there.1 counted there.2 (reported there.0 there.1 there.3))
-  next_refused (OfMethod.Untyped reported_of) OutOfMemory reported is = tt
   next_refused OfMethod.OutOfMemory (NoTyping method failure) reported is = elim is [ ]
-  next_refused OfMethod.OutOfMemory OutOfMemory reported is = tt
+  next_refused _ _ _ _ = tt

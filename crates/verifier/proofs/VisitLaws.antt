@@ -42,9 +42,8 @@ work_falls tree max_stack after ways old new (Err e) h = tt
 -- what holds where a stack was taken on holds where that is the result
 pub answered_so : {T : Type 0} (P : Type 0) (r : Result T RaiseError) (answer : Result T TypingError) → IsAnsweredBy r answer → OnOk r P → OnOk answer P
 answered_so P (Ok done) (Ok done') reported so = so
-answered_so P (Ok done) (Err e) reported so = tt
 answered_so P (Err step) (Ok done) reported so = elim reported [ ]
-answered_so P (Err step) (Err e) reported so = tt
+answered_so _ _ _ _ _ = tt
 
 module _ (m : MethodTypes) (operations : List Operation) (max_stack : ℤ) (code : Code) (of : AreOf m operations max_stack code) where
   abbrev arguments : List DeclaredType
@@ -152,8 +151,7 @@ module _ (m : MethodTypes) (operations : List Operation) (max_stack : ℤ) (code
         not_begun m.types.now arguments return_type code (typing_of m.types.now old.rows.items) as_long nothing
         (subst (λ (z : ℤ). CannotRise m.types.now z [] (0 ∷ []) (typing_of m.types.now old.rows.items)) of.same_max h)
     never_begun T OfRaise.OutOfMemory (Untyped failure) new h reported = elim reported [ ]
-    never_begun T (OfRaise.Refused at reason) OutOfMemory new h reported = tt
-    never_begun T OfRaise.OutOfMemory OutOfMemory new h reported = tt
+    never_begun _ _ _ _ _ _ = tt
 
   pub stopped : (T : Type 0) (e : TypingError) (new : Search) → IsVisit {T = T} m code new (Err e) → IsTypingAnswer m.types.now arguments return_type code (Err e)
   stopped T (Untyped failure) new h = h

@@ -8,7 +8,7 @@ use Rattle.cil_model.specs.declared.trees.Tree.{Tree}
 use Rattle.cil_model.specs.declared.trees.Code.{Code}
 use Rattle.cil_model.specs.declared.trees.Line.{Line}
 use Rattle.cil_model.specs.Bodies.{pc_of, falls_through, labels_of}
-use Rattle.resolved_code.specs.ResolvedPrograms.{IsOperation, no_operation, load_int32, load_int64, load_null, load_string, load_argument, store_argument, load_local, store_local, duplicate, pop, binary, unary, shift, compare, convert_int32, convert_int64, branch, switch, load_field, store_field, load_static_field, store_static_field, new_array, load_length, load_element, store_element, cast_class, is_instance, call, call_virtual, new_object, return}
+use Rattle.resolved_code.specs.ResolvedPrograms.{IsOperation, branch, switch}
 use Rattle.resolved_code.specs.declared.operations.Operation.{Operation}
 use Rattle.verifier.specs.Ways.{falls, targets, ways_on}
 use Rattle.verifier.specs.Tables.{AreWays}
@@ -18,49 +18,16 @@ abbrev AreSame : List Line → Instruction → Operation → Type 0
 AreSame lines i op = (falls_through i ≡ falls op) × (map (λ label. pc_of label lines) (labels_of i) ≡ map Some (targets op))
 
 same : (tree : Tree) (lines : List Line) (i : Instruction) (op : Operation) → IsOperation tree lines i op → AreSame lines i op
-same tree lines _ _ no_operation = (refl, refl)
-same tree lines _ _ (load_int32 z) = (refl, refl)
-same tree lines _ _ (load_int64 z) = (refl, refl)
-same tree lines _ _ load_null = (refl, refl)
-same tree lines _ _ (load_string characters n at) = (refl, refl)
-same tree lines _ _ (load_argument n) = (refl, refl)
-same tree lines _ _ (store_argument n) = (refl, refl)
-same tree lines _ _ (load_local n) = (refl, refl)
-same tree lines _ _ (store_local n) = (refl, refl)
-same tree lines _ _ duplicate = (refl, refl)
-same tree lines _ _ pop = (refl, refl)
-same tree lines _ _ (binary op) = (refl, refl)
-same tree lines _ _ (unary op) = (refl, refl)
-same tree lines _ _ (shift op) = (refl, refl)
-same tree lines _ _ (compare op) = (refl, refl)
-same tree lines _ _ convert_int32 = (refl, refl)
-same tree lines _ _ convert_int64 = (refl, refl)
 same tree lines _ _ (branch conditions.Always label pc at) = (refl, ap (λ o. o ∷ []) at)
 same tree lines _ _ (branch conditions.IfTrue label pc at) = (refl, ap (λ o. o ∷ []) at)
 same tree lines _ _ (branch conditions.IfFalse label pc at) = (refl, ap (λ o. o ∷ []) at)
 same tree lines _ _ (branch (conditions.Compare op) label pc at) = (refl, ap (λ o. o ∷ []) at)
 same tree lines _ _ (switch labels pcs at) = (refl, at)
-same tree lines _ _ (load_field r owner field at is) = (refl, refl)
-same tree lines _ _ (store_field r owner field at is) = (refl, refl)
-same tree lines _ _ (load_static_field r field is) = (refl, refl)
-same tree lines _ _ (store_static_field r field is) = (refl, refl)
-same tree lines _ _ (new_array t n at) = (refl, refl)
-same tree lines _ _ load_length = (refl, refl)
-same tree lines _ _ (load_element kind) = (refl, refl)
-same tree lines _ _ (store_element kind) = (refl, refl)
-same tree lines _ _ (cast_class t n at) = (refl, refl)
-same tree lines _ _ (is_instance t n at) = (refl, refl)
-same tree lines _ _ (call b r owner method at is) = (refl, refl)
-same tree lines _ _ (call_virtual c name signature owner method at is) = (refl, refl)
-same tree lines _ _ (new_object c parameters method is) = (refl, refl)
-same tree lines _ _ return = (refl, refl)
+same _ _ _ _ _ = (refl, refl)
 
 module _ {X : Type 0} (f : X → Option ℕ) where
   no_item : {A : Type 0} {Y : Type 0} (y : Y) (ys : List Y) → [] ≡ y ∷ ys → A
-  no_item {A} y ys e = absurd (lost e)
-    where
-      lost : [] ≡ y ∷ ys → ⊥
-      lost h = cc
+  no_item y ys e = absurd (cc e)
 
   to_way : (labels : List X) (ways : List ℕ) → map f labels ≡ map Some ways → (label : X) → Contains labels label → (way : ℕ) × (f label ≡ Some way) × Contains ways way
   to_way [] ways e label c = nothing_contained label c
@@ -94,10 +61,7 @@ module _ {X : Type 0} (f : X → Option ℕ) where
 
 next_in : (b : Bool) (ways : List ℕ) (next : ℕ) → IsTrue b → Contains (ways ++ (if b then next ∷ [] else [])) next
 next_in true ways next h = Contains-push ways next
-next_in false ways next h = absurd (lost h)
-  where
-    lost : IsTrue false → ⊥
-    lost k = cc
+next_in false ways next h = absurd (cc h)
 
 from_next : (b : Bool) (next way : ℕ) → Contains (if b then next ∷ [] else []) way → IsTrue b × (way ≡ next)
 from_next true next way c = (refl, sym (one_contained way next c))
