@@ -102,9 +102,8 @@ module _ (tree : Tree) where
   reference_found c slot = ap (λ o. option_map_or holds_reference o false) (kind_found c slot) ∙ by_slot (slice_get (slot_types tree c) slot)
     where
       by_slot : (o : Option (Option DeclaredType)) → option_map_or holds_reference (option_map kind_of o) false ≡ option_map_or (λ s. option_map_or is_reference s false) o false
-      by_slot None = refl
       by_slot (Some None) = refl
-      by_slot (Some (Some t)) = refl
+      by_slot _ = refl
 
   -- whether a row has the kind of references at a slot; an absent row has no slots
   abbrev is_reference_in : ℕ → Option (List SlotKind) → Bool

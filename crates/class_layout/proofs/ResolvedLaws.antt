@@ -1,5 +1,5 @@
 -- What classes by numbers determine of the classes that they represent.
-use Rattle.std.proofs.Common.{◌≡◌, ◌<◌, ◌≤◌, ◌+◌, ◌-◌, ◌⊎◌, inl, inr, ℕ, zero, suc, false, List, [], ◌∷◌, ◌++◌, length, map, take, get_or, Option, Some, None, option_map, option_and_then, unwrap_or, slice_get, if◌then◌else◌, refl, sym, ap, subst, ◌∙◌, arith}
+use Rattle.std.proofs.Common.{◌≡◌, ◌<◌, ◌≤◌, ◌+◌, ◌-◌, ◌⊎◌, inl, inr, ℕ, suc, false, List, [], ◌∷◌, ◌++◌, length, map, take, get_or, Option, Some, None, option_map, option_and_then, unwrap_or, slice_get, if◌then◌else◌, refl, sym, ap, subst, ◌∙◌, arith}
 use Rattle.std.specs.Prelude.{filter_map}
 use Rattle.std.specs.List.{cons_option}
 use Rattle.std.specs.Option.{option_map_or}
@@ -87,8 +87,6 @@ module _ (tree : Tree) where
   -- ---- chains
 
   pub chain_alike : (bases : List (Option ℕ)) → bases ≡ by_class tree (base_number tree) → (k : ℕ) (o : Option ClassName) → chain_by bases k (option_and_then (class_number tree) o) ≡ numbers_within tree k o
-  chain_alike bases are zero o = refl
-  chain_alike bases are (suc k) None = refl
   chain_alike bases are (suc k) (Some c) = by_number (chain_alike bases are k (base_of tree c)) (class_number tree c) refl
     where
       by_number : chain_by bases k (base_number tree c) ≡ numbers_within tree k (base_of tree c) → (n : Option ℕ) → class_number tree c ≡ n → chain_by bases (suc k) n ≡ numbers_within tree (suc k) (Some c)
@@ -96,6 +94,7 @@ module _ (tree : Tree) where
       by_number further (Some n) p =
           let base : base_at bases n ≡ base_number tree c = ap (λ bs. base_at bs n) are ∙ ap (λ o. unwrap_or o None) (answer_at tree (base_number tree) c n p) in
           ap (λ b. n ∷ chain_by bases k b) base ∙ ap (λ ns. n ∷ ns) further ∙ ap (λ o. cons_option o (numbers_within tree k (base_of tree c))) (sym p)
+  chain_alike _ _ _ _ = refl
 
   -- ---- fields
 
@@ -107,14 +106,12 @@ module _ (tree : Tree) where
   field_kinds : (fs : List Field) (rs : List ResolvedField) → AllAlike (IsResolvedField tree) fs rs → filter_map (resolved_kind tree) rs ≡ filter_map instance_kind fs
   field_kinds [] [] h = refl
   field_kinds (f ∷ fs) (r ∷ rs) h = ap (λ k. cons_option k (filter_map (resolved_kind tree) rs)) (field_kind f r h.0) ∙ ap (cons_option (instance_kind f)) (field_kinds fs rs h.1)
-  field_kinds [] (r ∷ rs) h = absurd h
-  field_kinds (f ∷ fs) [] h = absurd h
+  field_kinds _ _ h = absurd h
 
   pub flags_alike : (fs : List Field) (rs : List ResolvedField) → AllAlike (IsResolvedField tree) fs rs → map (λ (r : ResolvedField). r.is_static) rs ≡ map (λ (f : Field). f.is_static) fs
   flags_alike [] [] h = refl
   flags_alike (f ∷ fs) (r ∷ rs) h = ap (λ b. b ∷ map (λ (x : ResolvedField). x.is_static) rs) h.0.is_static ∙ ap (λ bs. f.is_static ∷ bs) (flags_alike fs rs h.1)
-  flags_alike [] (r ∷ rs) h = absurd h
-  flags_alike (f ∷ fs) [] h = absurd h
+  flags_alike _ _ h = absurd h
 
   module _ (legal : IsLegal tree) where
     -- ---- names and numbers
@@ -141,8 +138,7 @@ module _ (tree : Tree) where
     base_named (Some n) (Some c) h =
         let named : class_name tree n ≡ Some c = cc in
         sym (named_number n c named)
-    base_named None (Some c) h = cc
-    base_named (Some n) None h = cc
+    base_named _ _ h = cc
 
     numbers_named : (ns : List ℕ) (cs : List ClassName) → map (class_name tree) ns ≡ map Some cs → ns ≡ filter_map (class_number tree) cs
     numbers_named [] [] h = refl
@@ -150,8 +146,7 @@ module _ (tree : Tree) where
         let named : class_name tree n ≡ Some c = cc in
         let others : map (class_name tree) ns ≡ map Some cs = cc in
         ap (λ ms. n ∷ ms) (numbers_named ns cs others) ∙ ap (λ o. cons_option o (filter_map (class_number tree) cs)) (sym (named_number n c named))
-    numbers_named [] (c ∷ cs) h = cc
-    numbers_named (n ∷ ns) [] h = cc
+    numbers_named _ _ h = cc
 
     -- ---- all classes
 
@@ -161,8 +156,7 @@ module _ (tree : Tree) where
     alike_by answer of each [] [] known h = refl
     alike_by answer of each (e ∷ es) (r ∷ rs) known h =
         ap (λ x. x ∷ map of rs) (each e r (known 0 e refl) h.0) ∙ ap (λ xs. answer e.0 ∷ xs) (alike_by answer of each es rs (λ n. known (suc n)) h.1)
-    alike_by answer of each [] (r ∷ rs) known h = absurd h
-    alike_by answer of each (e ∷ es) [] known h = absurd h
+    alike_by _ _ _ _ _ _ h = absurd h
 
     module _ (rs : List ResolvedClass) (are : AreResolved tree rs) where
       pub bases_alike : map (λ (r : ResolvedClass). r.base) rs ≡ by_class tree (base_number tree)

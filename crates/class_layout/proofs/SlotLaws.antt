@@ -63,14 +63,7 @@ module _ {Y : Type 0} (flag : Bool) (key : Field → Y) (test : Y → Bool) (fur
       by_flag : (v b : Bool) → b ≡ v → test (key g) ≡ true → Some (if b then s else i) ≡ position_from test (if v then s else i) (map key (cond (same_flag b v) (g ∷ of_flag v gs) (of_flag v gs)) ++ further)
       by_flag true true k named = sym (ap (λ t. cond t (Some s) (position_from test (s + 1) (map key (of_flag true gs) ++ further))) named)
       by_flag false false k named = sym (ap (λ t. cond t (Some i) (position_from test (i + 1) (map key (of_flag false gs) ++ further))) named)
-      by_flag true false k named = absurd (no_flag k)
-        where
-          no_flag : false ≡ true → ⊥
-          no_flag z = cc
-      by_flag false true k named = absurd (no_flag k)
-        where
-          no_flag : true ≡ false → ⊥
-          no_flag z = cc
+      by_flag _ _ k named = absurd (cc k)
   field_number_is (g ∷ gs) s i (suc p) h e = by_flag flag g.is_static (λ t j. field_number_is gs t j p (or_parts _ _ h).1 e)
     where
       other : test (key g) ≡ false
@@ -193,9 +186,8 @@ module _ (tree : Tree) where
   no_double legal = let h : doubles_name tree ≡ false = (unbroken (doubles_name tree) 201 _ legal).0 in (or_parts _ _ h).1
 
   shorter : (test : ClassName → Bool) (n : ℕ) (o : Option ClassName) → list_any test (chain_within tree (suc n) o) ≡ false → list_any test (chain_within tree n o) ≡ false
-  shorter test zero o h = refl
-  shorter test (suc n) None h = refl
   shorter test (suc n) (Some c) h = or_from _ _ (or_parts _ _ h).0 (shorter test n (base_of tree c) (or_parts _ _ h).1)
+  shorter _ _ _ _ = refl
 
   -- a class with fields is of the source
   abbrev IsOfSource : ClassName → Declaration → Type 0

@@ -46,26 +46,12 @@ kinds_alike tree (Named.Static code) (KindOf.Static body) h = (refl, refl)
 kinds_alike tree (Named.Instance code) (KindOf.Instance body) h = (refl, refl)
 kinds_alike tree (Named.Virtual a code) (KindOf.Virtual b body) h = (ap slot_use_by_flag h.0, refl)
 kinds_alike tree (Named.Abstract a) (KindOf.Abstract b) h = (ap slot_use_by_flag h, refl)
-kinds_alike tree (Named.Static code) (KindOf.Instance body) h = absurd h
-kinds_alike tree (Named.Static code) (KindOf.Virtual b body) h = absurd h
-kinds_alike tree (Named.Static code) (KindOf.Abstract b) h = absurd h
-kinds_alike tree (Named.Instance code) (KindOf.Static body) h = absurd h
-kinds_alike tree (Named.Instance code) (KindOf.Virtual b body) h = absurd h
-kinds_alike tree (Named.Instance code) (KindOf.Abstract b) h = absurd h
-kinds_alike tree (Named.Virtual a code) (KindOf.Static body) h = absurd h
-kinds_alike tree (Named.Virtual a code) (KindOf.Instance body) h = absurd h
-kinds_alike tree (Named.Virtual a code) (KindOf.Abstract b) h = absurd h
-kinds_alike tree (Named.Abstract a) (KindOf.Static body) h = absurd h
-kinds_alike tree (Named.Abstract a) (KindOf.Instance body) h = absurd h
-kinds_alike tree (Named.Abstract a) (KindOf.Virtual b body) h = absurd h
+kinds_alike _ _ _ h = absurd h
 
 virtual_use : (k : MethodKind) → is_virtual_use (slot_use_of_named k) ≡ is_virtual k
-virtual_use (Named.Static code) = refl
-virtual_use (Named.Instance code) = refl
 virtual_use (Named.Virtual true code) = refl
-virtual_use (Named.Virtual false code) = refl
 virtual_use (Named.Abstract true) = refl
-virtual_use (Named.Abstract false) = refl
+virtual_use _ = refl
 
 -- whether a method by numbers is virtual
 pub is_virtual_by : (tree : Tree) (k : MethodKind) (r : ResolvedKind) → IsResolvedKind tree k r → is_virtual_use (slot_use_by_id r) ≡ is_virtual k
@@ -76,10 +62,9 @@ slot_of_flag n inherited true = refl
 slot_of_flag n inherited false = refl
 
 slot_of_kind : (n : ℕ) (inherited : Option ℕ) (k : MethodKind) → slot_by_use n inherited (slot_use_of_named k) ≡ (if is_virtual k then Some (if is_new_slot_method k then n else unwrap_or inherited n) else None)
-slot_of_kind n inherited (Named.Static code) = refl
-slot_of_kind n inherited (Named.Instance code) = refl
 slot_of_kind n inherited (Named.Virtual b code) = slot_of_flag n inherited b
 slot_of_kind n inherited (Named.Abstract b) = slot_of_flag n inherited b
+slot_of_kind _ _ _ = refl
 
 flag_of_false : (b : Bool) → not b ≡ same_flag false b
 flag_of_false true = refl
@@ -204,8 +189,7 @@ module _ (tree : Tree) (k : MethodIdentity) (i : ℕ) (has_id : identity_number 
           option_map (λ (x : Method). slot_use_of_named x.kind) (cond b (Some m) (find (λ x. same_identity k (identity_of x)) ms))
       by_test true further = ap Some (kinds_alike tree m.kind r.kind h.0.kind).0
       by_test false further = further
-  slot_use_found [] (r ∷ rs) known h = absurd h
-  slot_use_found (m ∷ ms) [] known h = absurd h
+  slot_use_found _ _ _ h = absurd h
 
   abbrev own_test : Method → Bool
   own_test m = same_call_identity (k, false) (call_identity_of m)
@@ -219,8 +203,7 @@ module _ (tree : Tree) (k : MethodIdentity) (i : ℕ) (has_id : identity_number 
       let object : not (is_static_by_id r.kind) ≡ same_flag false (is_static m.kind) = ap not (kinds_alike tree m.kind r.kind h.0.kind).1 ∙ flag_of_false (is_static m.kind) in
       let test : own_by_id r ≡ own_test m = ap (λ b. b && not (is_static_by_id r.kind)) (test_alike m r (known 0 m refl) h.0) ∙ ap (λ b. same_identity k (identity_of m) && b) object in
       ap (λ b. cond b (Some index) (position_from own_by_id (index + 1) rs)) test ∙ ap (λ o. cond (own_test m) (Some index) o) (own_found (index + 1) ms rs (λ p. known (suc p)) h.1)
-  own_found index [] (r ∷ rs) known h = absurd h
-  own_found index (m ∷ ms) [] known h = absurd h
+  own_found _ _ _ _ h = absurd h
 
   -- ---- classes
 
@@ -238,8 +221,7 @@ module _ (tree : Tree) (k : MethodIdentity) (i : ℕ) (has_id : identity_number 
             option_and_then (λ (r : ResolvedClass). slot_use_in i r.methods) p ≡ option_map (λ (m : Method). slot_use_of_named m.kind) (option_and_then (λ (e : ClassName × Declaration). find (λ m. same_identity k (identity_of m)) e.1.methods) o)
         by_entry None None e h = refl
         by_entry (Some x) (Some r) e h = slot_use_found x.1.methods r.methods (known_in n x e) h.methods
-        by_entry None (Some r) e h = absurd h
-        by_entry (Some x) None e h = absurd h
+        by_entry _ _ _ h = absurd h
 
     own_known : (n : ℕ) → own_at rs i n ≡ own_method tree k n
     own_known n = by_entry (slice_get (declarations tree) n) (slice_get rs n) refl (alike_at (IsClass tree) (declarations tree) rs are n)
@@ -252,8 +234,7 @@ module _ (tree : Tree) (k : MethodIdentity) (i : ℕ) (has_id : identity_number 
             option_map {U = MethodId} (λ index. record { class = n; index = index }) (option_and_then (λ (e : ClassName × Declaration). position_from own_test 0 e.1.methods) o)
         by_entry None None e h = refl
         by_entry (Some x) (Some r) e h = ap (option_map {U = MethodId} (λ index. record { class = n; index = index })) (own_found 0 x.1.methods r.methods (known_in n x e) h.methods)
-        by_entry None (Some r) e h = absurd h
-        by_entry (Some x) None e h = absurd h
+        by_entry _ _ _ h = absurd h
 
     -- ---- slots
 

@@ -8,12 +8,13 @@ use Rattle.cil_model.specs.declared.types.ClassName.{ClassName}
 use Rattle.cil_model.specs.declared.trees.Tree.{Tree}
 use Rattle.cil_model.specs.declared.trees.Method.{Method}
 use Rattle.cil_model.specs.declared.trees.MethodKind.{MethodKind}
-use Rattle.cil_model.specs.declared.trees.MethodKind.TheVariants.{Static, Instance, Virtual, Abstract}
+use Rattle.cil_model.specs.declared.trees.MethodKind.TheVariants.{Static}
 use Rattle.cil_model.specs.Same.{same_class, same_options, same_flag}
 use Rattle.cil_model.specs.Declarations.{Declaration}
 use Rattle.cil_model.specs.Chains.{listed_by, chain_of, methods_declared, method_declared, interfaces_declared, is_interface, nearest, is_static, is_virtual, is_new_slot_method}
 use Rattle.cil_model.specs.Slots.{slot_filled, slot_along, implementation_along, class_target, virtual_in, implementer_along, interface_target, target}
 use Rattle.cil_model.specs.Legality.{IsLegal}
+use Rattle.cil_model.proofs.SameLaws.{never}
 use Rattle.name_tables.specs.Sameness.{MethodIdentity, same_identity, identity_of, same_call_identity, call_identity_of}
 use Rattle.name_tables.specs.SamenessLaws.{identity_equivalence}
 use Rattle.name_tables.specs.Numbers.{declarations, class_number, chain_numbers, method_at, index_in, method_found}
@@ -30,17 +31,9 @@ use Rattle.class_layout.specs.Targets.{chain_at, implementation_over, implementa
 use Rattle.resolved_code.proofs.Numbers.Classes.{FoundAt, found_at, not_declared, among_numbers, number_of_index}
 use Rattle.class_layout.proofs.AncestorLaws.{answer_at, answer_of}
 
-false_is_true : {A : Type 0} → false ≡ true → A
-false_is_true e = absurd (none e)
-  where
-    none : false ≡ true → ⊥
-    none h = cc
-
 virtual_not_static : (kind : MethodKind) → is_virtual kind ≡ true → is_static kind ≡ false
-virtual_not_static (Static code) h = false_is_true h
-virtual_not_static (Instance code) h = refl
-virtual_not_static (Virtual is_new_slot code) h = refl
-virtual_not_static (Abstract is_new_slot) h = refl
+virtual_not_static (Static code) h = never h
+virtual_not_static _ _ = refl
 
 -- where a method of an identity has an object, the first of that identity for objects is the same one
 find_own : (k : MethodIdentity) (ms : List Method) (m : Method) → find (λ (x : Method). same_identity (identity_of x) k) ms ≡ Some m → is_static m.kind ≡ false →
@@ -88,9 +81,8 @@ module _ (tree : Tree) where
         ((m : Method) → f ≡ Some m → fills ≡ true → is_virtual m.kind ≡ true) → IsImplementation rest below →
         IsImplementation (option_map_or (λ (m : Method). if fills then Some (c, m) else rest) f rest) (if fills then option_map_or (λ (m : Method). Some n) f below else below)
     implementation_here c n None true rest below e g v h = h
-    implementation_here c n None false rest below e g v h = h
     implementation_here c n (Some m) true rest below e g v h = (e, g, v m refl refl)
-    implementation_here c n (Some m) false rest below e g v h = h
+    implementation_here _ _ _ _ _ _ _ _ _ h = h
 
     -- what fills a slot is virtual
     fills_as_virtual : (s c : ClassName) (inherited : Option ClassName) (m : Method) → same_options same_class (slot_filled c inherited m) (Some s) ≡ true → is_virtual m.kind ≡ true
@@ -98,7 +90,7 @@ module _ (tree : Tree) where
       where
         by_kind : (b : Bool) → is_virtual m.kind ≡ b → same_options same_class (if b then Some (if is_new_slot_method m.kind then c else unwrap_or inherited c) else None) (Some s) ≡ true → is_virtual m.kind ≡ true
         by_kind true e g = e
-        by_kind false e g = false_is_true g
+        by_kind false e g = never g
 
     abbrev fills_slot : ClassName → ClassName → List ClassName → Bool
     fills_slot s c cs = same_options same_class (slot_along tree k.name k.signature (c ∷ cs)) (Some s)
@@ -143,14 +135,12 @@ module _ (tree : Tree) where
         by_implementation : (o : Option (ClassName × Method)) (p : Option ℕ) → IsImplementation o p → option_map target_method (option_and_then (own_method tree k) p) ≡ option_map Some o
         by_implementation None None h = refl
         by_implementation (Some f) (Some n) h = own_known f.0 n f.1 h.0 h.1 h.2
-        by_implementation None (Some n) h = absurd h
-        by_implementation (Some f) None h = absurd h
+        by_implementation _ _ h = absurd h
 
         by_slot : (o : Option ClassName) (p : Option ℕ) → IsTied tree o p → option_map target_method (option_and_then (λ slot. option_and_then (own_method tree k) (implementation_by_id tree k slot (chain_numbers tree d))) p) ≡ option_map Some (option_and_then (λ slot. implementations slot (chain_of tree d)) o)
         by_slot None None h = refl
         by_slot (Some s) (Some i) h = by_implementation (implementations s (chain_of tree d)) (implementation_by_id tree k i (chain_numbers tree d)) (implementation_known s i h (chain_of tree d))
-        by_slot None (Some i) h = absurd h
-        by_slot (Some s) None h = absurd h
+        by_slot _ _ h = absurd h
 
     -- ---- interfaces
 
@@ -220,8 +210,7 @@ module _ (tree : Tree) where
             option_map target_method (option_and_then (λ found. class_implementation tree k (chain_numbers tree d) (chain_at tree found)) p) ≡ option_map Some (option_and_then (λ (found : ClassName × Method). class_target tree k.name k.signature d found.0) o)
         by_found None None h = refl
         by_found (Some f) (Some n) h = ap (λ ns. option_map target_method (class_implementation tree k (chain_numbers tree d) ns)) (chain_known f.0 n h) ∙ class_known d f.0
-        by_found None (Some n) h = absurd h
-        by_found (Some f) None h = absurd h
+        by_found _ _ h = absurd h
 
         by_implementer : (o : Option ClassName) (p : Option ℕ) → IsTied tree o p →
             option_map target_method (option_and_then (λ implementer. option_and_then (λ found. class_implementation tree k (chain_numbers tree d) (chain_at tree found)) (find (is_virtual_found tree k) (chain_at tree implementer))) p) ≡
@@ -230,8 +219,7 @@ module _ (tree : Tree) where
         by_implementer (Some l) (Some n) h =
             ap (λ ns. option_map target_method (option_and_then (λ found. class_implementation tree k (chain_numbers tree d) (chain_at tree found)) (find (is_virtual_found tree k) ns))) (chain_known l n h) ∙
             by_found (nearest (virtual_in tree k.name k.signature) (chain_of tree l)) (find (is_virtual_found tree k) (chain_numbers tree l)) (virtual_known (chain_of tree l))
-        by_implementer None (Some n) h = absurd h
-        by_implementer (Some l) None h = absurd h
+        by_implementer _ _ h = absurd h
 
   -- ---- the table
 
