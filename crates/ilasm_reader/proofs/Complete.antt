@@ -5,7 +5,7 @@ use Rattle.std.specs.Int.{w32}
 use Rattle.std.proofs.lemmas.Slice.Eq.{bytes_eq-Decides}
 use Rattle.std.proofs.lemmas.Bool.{le-leb}
 use Rattle.cil_model.specs.declared.tokens.Symbol as symbols
-use Rattle.cil_model.specs.declared.tokens.Symbol.TheVariants.{OpenBrace, CloseBrace, OpenParenthesis, CloseParenthesis, OpenBracket, CloseBracket, Comma, Colon, DoubleColon}
+use Rattle.cil_model.specs.declared.tokens.Symbol.TheVariants.{OpenBrace, CloseBrace, OpenParenthesis, CloseParenthesis, OpenBracket, CloseBracket, Comma, DoubleColon}
 use Rattle.cil_model.specs.declared.tokens.Token.{Token}
 use Rattle.cil_model.specs.declared.tokens.Token.TheVariants.{Integer, Quoted}
 use Rattle.cil_model.specs.declared.types.ClassName.{ClassName}
@@ -60,14 +60,7 @@ word_complete w e = rw (e, same_bytes w) refl
 
 symbol_is : (s : symbols.Symbol) → (number_of s == number_of s) ≡ true
 symbol_is OpenBrace = refl
-symbol_is CloseBrace = refl
-symbol_is OpenParenthesis = refl
-symbol_is CloseParenthesis = refl
-symbol_is OpenBracket = refl
-symbol_is CloseBracket = refl
-symbol_is Comma = refl
-symbol_is Colon = refl
-symbol_is DoubleColon = refl
+symbol_is _ = refl
 
 pub sign_complete : (s : symbols.Symbol) {ts rest : List Token} → sign s ts rest → sign_at s ts ≡ Some rest
 unfolding sign_at choice
@@ -160,15 +153,8 @@ comma_starts e = rw e refl
 
 pub sign_no_comma : (s : symbols.Symbol) {ts rest : List Token} → (number_of s == number_of Comma) ≡ false → sign s ts rest → starts_comma ts ≡ false
 unfolding starts_comma sign_at choice
-sign_no_comma OpenBrace h e = rw e refl
-sign_no_comma CloseBrace h e = rw e refl
-sign_no_comma OpenParenthesis h e = rw e refl
-sign_no_comma CloseParenthesis h e = rw e refl
-sign_no_comma OpenBracket h e = rw e refl
-sign_no_comma CloseBracket h e = rw e refl
 sign_no_comma Comma h e = absurd cc
-sign_no_comma Colon h e = rw e refl
-sign_no_comma DoubleColon h e = rw e refl
+sign_no_comma _ _ e = rw e refl
 
 module _ {A : Type 0} (parses : Parser A) (R : A → Span) (sound : Sound parses R) (complete : CompleteBefore EndsItem parses R) where
   comma_first : (x : A) (ts rest : List Token) → (sign Comma ▸ R x) ts rest → (starts_comma ts ≡ true) × EndsItem ts
@@ -271,11 +257,8 @@ element_word (ClassElement c) = codes "class"
 
 element_begins : (e : Element) (ts rest : List Token) → elem e ts rest → (mid : List Token) × word (element_word e) ts mid
 unfolding element_word
-element_begins Int32 ts rest p = (rest, p)
-element_begins Int64 ts rest p = (rest, p)
-element_begins Object ts rest p = (rest, p)
-element_begins String ts rest p = (rest, p)
 element_begins (ClassElement c) ts rest (a, p, q) = (a, p)
+element_begins _ _ rest p = (rest, p)
 
 pub element_no_word : (w : List ℕ) → bytes_eq (codes "int32") w ≡ false → bytes_eq (codes "int64") w ≡ false → bytes_eq (codes "object") w ≡ false → bytes_eq (codes "string") w ≡ false → bytes_eq (codes "class") w ≡ false
     → (e : Element) (ts rest : List Token) → elem e ts rest → word_at w ts ≡ None
@@ -406,16 +389,7 @@ local_stores = (refl, (refl, (refl, (refl, tt))))
 binary_form : (op : BinaryOperation) → form_of (use_of (binary_word op)) ≡ Some (forms.Bare (bares.Binary op))
 unfolding use_of form_of
 binary_form binary.Add = refl
-binary_form binary.Subtract = refl
-binary_form binary.Multiply = refl
-binary_form binary.AddOverflow = refl
-binary_form binary.SubtractOverflow = refl
-binary_form binary.MultiplyOverflow = refl
-binary_form binary.Divide = refl
-binary_form binary.Remainder = refl
-binary_form binary.And = refl
-binary_form binary.Or = refl
-binary_form binary.ExclusiveOr = refl
+binary_form _ = refl
 
 unary_form : (op : UnaryOperation) → form_of (use_of (unary_word op)) ≡ Some (forms.Bare (bares.Unary op))
 unfolding use_of form_of
@@ -425,38 +399,27 @@ unary_form unary.Complement = refl
 shift_form : (op : ShiftOperation) → form_of (use_of (shift_word op)) ≡ Some (forms.Bare (bares.Shift op))
 unfolding use_of form_of
 shift_form shift.Left = refl
-shift_form shift.Right = refl
-shift_form shift.RightUnsigned = refl
+shift_form _ = refl
 
 comparison_form : (op : Comparison) → form_of (use_of (comparison_word op)) ≡ Some (forms.Bare (bares.Compare op))
 unfolding use_of form_of
 comparison_form comparison.Equal = refl
-comparison_form comparison.Greater = refl
-comparison_form comparison.Less = refl
+comparison_form _ = refl
 
 branch_form : (condition : BranchCondition) → form_of (use_of (branch_word condition)) ≡ Some (forms.Branch condition)
 unfolding use_of form_of
-branch_form conditions.Always = refl
-branch_form conditions.IfTrue = refl
-branch_form conditions.IfFalse = refl
 branch_form (conditions.Compare branch.Equal) = refl
-branch_form (conditions.Compare branch.NotEqual) = refl
-branch_form (conditions.Compare branch.GreaterOrEqual) = refl
-branch_form (conditions.Compare branch.Greater) = refl
-branch_form (conditions.Compare branch.LessOrEqual) = refl
-branch_form (conditions.Compare branch.Less) = refl
+branch_form _ = refl
 
 load_element_form : (kind : ElementKind) → form_of (use_of (load_element_word kind)) ≡ Some (forms.Bare (bares.LoadElement kind))
 unfolding use_of form_of
 load_element_form kinds.Int32 = refl
-load_element_form kinds.Int64 = refl
-load_element_form kinds.Reference = refl
+load_element_form _ = refl
 
 store_element_form : (kind : ElementKind) → form_of (use_of (store_element_word kind)) ≡ Some (forms.Bare (bares.StoreElement kind))
 unfolding use_of form_of
 store_element_form kinds.Int32 = refl
-store_element_form kinds.Int64 = refl
-store_element_form kinds.Reference = refl
+store_element_form _ = refl
 
 spelled_bare : (i : Instruction) (w : List ℕ) (which : bare_type.Bare) (ts rest : List Token) → form_of (use_of w) ≡ Some (forms.Bare which) → i ≡ bare which → word w ts rest → Spelled i ts rest
 spelled_bare i w which ts rest h e p = record { word_is = w; form = forms.Bare which; has = h; mid = rest; first = p; following = (e, refl) }

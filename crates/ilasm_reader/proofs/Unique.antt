@@ -17,10 +17,6 @@ of_tokens : (source : List ℕ) (ts : List Token) (tree : Tree) → AreTokens so
 of_tokens source ts tree p (us, q, r) = subst (λ (vs : List Token). IsUnit vs tree) (same_tokens source us ts q p) r
 
 pub one_answer : (source : List ℕ) (a b : SourceAnswer) → IsAnswer source a → IsAnswer source b → a ≡ b
-one_answer source TooLong TooLong p q = refl
-one_answer source Foreign Foreign p q = refl
-one_answer source NoToken NoToken p q = refl
-one_answer source NoTree NoTree p q = refl
 one_answer source (HasTree t) (HasTree u) (a, b, (ts, p, q)) (c, d, e) = ap HasTree (same_tree ts t u q (of_tokens source ts u p e))
 one_answer source TooLong Foreign p q = apart _ p q.0
 one_answer source TooLong NoToken p q = apart _ p q.0
@@ -42,3 +38,4 @@ one_answer source NoTree NoToken (c, d, ts, p, q) (a, b, none) = absurd (none ts
 one_answer source (HasTree t) NoToken (c, d, (ts, p, q)) (a, b, none) = absurd (none ts p)
 one_answer source NoTree (HasTree u) (a, b, ts, p, none) (c, d, e) = absurd (none u (of_tokens source ts u p e))
 one_answer source (HasTree t) NoTree (c, d, e) (a, b, ts, p, none) = absurd (none t (of_tokens source ts t p e))
+one_answer _ _ _ _ _ = refl

@@ -128,10 +128,7 @@ begun_by ConstructorName None (kinds.Instance c) ts rest p =
       head_read = λ us vs e (a, q, r). bind_at _ (word_complete (codes "void") q) (bind_at _ (word_complete (codes ".ctor") r) refl);
       body_read = λ us vs q. bind_at _ (code_complete c us vs q) refl;
     }
-begun_by ConstructorName None (kinds.Static c) ts rest p = absurd p
-begun_by ConstructorName None (kinds.Virtual is_new_slot c) ts rest p = absurd p
-begun_by ConstructorName None (kinds.Abstract is_new_slot) ts rest p = absurd p
-begun_by ConstructorName (Some t) k ts rest p = absurd p
+begun_by _ _ _ _ _ p = absurd p
 
 -- the words of a virtual or an abstract method
 virtual_words_complete : (is_new_slot is_abstract : Bool) (ts a b c rest : List Token) → present is_new_slot (word (codes "newslot")) ts a → present is_abstract (word (codes "abstract")) a b → word (codes "virtual") b c → word (codes "instance") c rest
