@@ -67,11 +67,10 @@ module _ (tree : Tree) where
   type_ends legal e k zero h = absurd (omega (arith, h))
   type_ends legal Object k n h = object_ends k n (omega (arith, h))
   type_ends legal String k n h = string_ends k n (omega (arith, h))
-  type_ends legal Int32 zero (suc n) h = refl
-  type_ends legal Int64 zero (suc n) h = refl
   type_ends legal Int32 (suc k) (suc n) h = object_ends k n (omega (arith, h))
   type_ends legal Int64 (suc k) (suc n) h = object_ends k n (omega (arith, h))
   type_ends legal (Class c) k n h = class_ends (longest_chain tree) c (chain_ends tree (no_cycle tree legal) c (suc (longest_chain tree)) (omega arith)) k n h
+  type_ends _ _ _ _ _ = refl
 
   -- ---- merges
 
@@ -97,10 +96,7 @@ module _ (tree : Tree) where
 
   -- null and what is no reference have no type above both
   never : {A : Type 0} → true ≡ false → A
-  never {A} e = absurd (lost e)
-    where
-      lost : true ≡ false → ⊥
-      lost h = cc
+  never e = absurd (cc e)
 
   alone : (n : ℕ) (t v : DeclaredType) → is_reference t ≡ false → IsTrue (is_reference v) → ancestor tree n t ≡ Some v → ⊥
   alone zero t v none r e = let P : DeclaredType → Type 0 = λ x. IsTrue (is_reference x) in never (sym (subst P (sym (same_Some t v e)) r) ∙ none)

@@ -36,10 +36,9 @@ module _ (tree : Tree) where
         one h = let e : Class m ≡ Class n = one_element tree legal (Class m) (Class n) k l (ap Named.Class h) in cc e
 
         by_tests : (s t : Bool) → same_class (class_named tree m) (class_named tree n) ≡ s → (m == n) ≡ t → s ≡ t
-        by_tests true true p q = refl
-        by_tests false false p q = refl
         by_tests true false p q = sym (eq-eqb m n (one (same_class_equal (class_named tree m) (class_named tree n) p))) ∙ q
         by_tests false true p q = sym p ∙ ap (λ (i : ℕ). same_class (class_named tree m) (class_named tree i)) (sym (eqb-true m n q)) ∙ same_class_itself (class_named tree m)
+        by_tests _ _ _ _ = refl
 
     listed_number : (to : ℕ) → is_some (class_name tree to) ≡ true → (ks : List ℕ) (names : List ClassName) → map (class_name tree) ks ≡ map Some names →
         list_any (same_class (class_named tree to)) names ≡ list_any (λ i. i == to) ks
@@ -50,8 +49,7 @@ module _ (tree : Tree) where
         let here : same_class (class_named tree to) c ≡ (k == to) =
         class_equivalence.symm (class_named tree to) c ∙ ap (λ (x : ClassName). same_class x (class_named tree to)) (sym (element_at_number tree k c first)) ∙ same_number k to (ap is_some first) l in
         ap (λ b. b || list_any (same_class (class_named tree to)) names) here ∙ ap (λ b. (k == to) || b) (listed_number to l ks names others)
-    listed_number to l [] (c ∷ names) h = absurd (cc h)
-    listed_number to l (k ∷ ks) [] h = absurd (cc h)
+    listed_number to l _ _ h = absurd (cc h)
 
     -- the test of one class, by numbers
     tested : (n to : ℕ) (k : ResolvedClass) → IsClassAt tree n k → is_some (class_name tree to) ≡ true → refines (class_named tree to) (class_named tree n) ≡ (n == to) || list_any (λ i. i == to) k.interfaces

@@ -99,8 +99,6 @@ module _ (tree : Tree) where
   -- ---- the type of a class's objects
 
   number_of_type : (n : ℕ) (c : ClassName) → 1 < n → class_name tree n ≡ Some c → element_of_class c ≡ Named.Class c
-  number_of_type zero c h e = absurd (omega (arith, h))
-  number_of_type (suc zero) c h e = absurd (omega (arith, h))
   number_of_type (suc (suc zero)) c h e = subst (λ (d : ClassName). element_of_class d ≡ Named.Class d) (same_Some console_name c e) refl
   number_of_type (suc (suc (suc zero))) c h e = subst (λ (d : ClassName). element_of_class d ≡ Named.Class d) (same_Some monitor_name c e) refl
   number_of_type (suc (suc (suc (suc zero)))) c h e = subst (λ (d : ClassName). element_of_class d ≡ Named.Class d) (same_Some thread_name c e) refl
@@ -110,6 +108,7 @@ module _ (tree : Tree) where
       source_type [] m f = none_is_some c f
       source_type (k ∷ cs) zero f = subst (λ (d : ClassName). element_of_class d ≡ Named.Class d) (same_Some (source_name k) c f) refl
       source_type (k ∷ cs) (suc m) f = source_type cs m f
+  number_of_type _ c h e = absurd (omega (arith, h))
 
   pub element_at_number : (n : ℕ) (c : ClassName) → class_name tree n ≡ Some c → class_named tree n ≡ c
   element_at_number n c e = ap (λ (o : Option ClassName). option_map_or (λ (x : ClassName). x) o object_name) e
@@ -167,26 +166,7 @@ module _ (tree : Tree) where
           let names : class_named tree m ≡ class_named tree n = ap class_in e in
           let same : c ≡ d = sym (element_at_number m c f) ∙ names ∙ element_at_number n d g in
           ap Class (one_number legal m n c f (g ∙ ap Some (sym same)))
-  one_element legal Int32 Int64 k l e = absurd (cc e)
-  one_element legal Int32 Object k l e = absurd (cc e)
-  one_element legal Int32 String k l e = absurd (cc e)
-  one_element legal Int32 (Class n) k l e = absurd (cc e)
-  one_element legal Int64 Int32 k l e = absurd (cc e)
-  one_element legal Int64 Object k l e = absurd (cc e)
-  one_element legal Int64 String k l e = absurd (cc e)
-  one_element legal Int64 (Class n) k l e = absurd (cc e)
-  one_element legal Object Int32 k l e = absurd (cc e)
-  one_element legal Object Int64 k l e = absurd (cc e)
-  one_element legal Object String k l e = absurd (cc e)
-  one_element legal Object (Class n) k l e = absurd (cc e)
-  one_element legal String Int32 k l e = absurd (cc e)
-  one_element legal String Int64 k l e = absurd (cc e)
-  one_element legal String Object k l e = absurd (cc e)
-  one_element legal String (Class n) k l e = absurd (cc e)
-  one_element legal (Class n) Int32 k l e = absurd (cc e)
-  one_element legal (Class n) Int64 k l e = absurd (cc e)
-  one_element legal (Class n) Object k l e = absurd (cc e)
-  one_element legal (Class n) String k l e = absurd (cc e)
+  one_element legal _ _ k l e = absurd (cc e)
 
   pub one_type : IsLegal tree → (a b : ResolvedType) → is_known tree a.element ≡ true → is_known tree b.element ≡ true → type_named tree a ≡ type_named tree b → a ≡ b
   one_type legal a b k l e = λ i. record {

@@ -11,7 +11,7 @@ use Rattle.cil_model.specs.Assignable.{is_class_assignable}
 use Rattle.resolved_code.specs.ById.{class_name, element_at, type_at}
 use Rattle.resolved_code.specs.TypeTests.{IsResultOf}
 use Rattle.resolved_code.specs.declared.types.ResolvedElement.{ResolvedElement}
-use Rattle.resolved_code.specs.declared.types.ResolvedElement.TheVariants.{Int32, Int64, Object, String, Class}
+use Rattle.resolved_code.specs.declared.types.ResolvedElement.TheVariants.{Class}
 use Rattle.resolved_code.specs.declared.types.ResolvedType.{ResolvedType}
 use Rattle.resolved_code.specs.declared.type_tests.TypeTest.TheVariants.{OfClasses}
 use Rattle.flow_rules.specs.StackTypes.{class_named, element_named, type_named, is_known}
@@ -19,15 +19,12 @@ use Rattle.flow_rules.proofs.Classes.{element_at_number}
 
 module _ (tree : Tree) where
   element_refines : (n : ResolvedElement) → is_known tree n ≡ true → element_at tree n ≡ Some (element_named tree n)
-  element_refines Int32 k = refl
-  element_refines Int64 k = refl
-  element_refines Object k = refl
-  element_refines String k = refl
   element_refines (Class n) k = by_name (class_name tree n) k
     where
       by_name : (o : Option ClassName) → is_some o ≡ true → option_map Named.Class o ≡ Some (Named.Class (option_map_or (λ (c : ClassName). c) o object_name))
       by_name None h = absurd (cc h)
       by_name (Some c) h = refl
+  element_refines _ _ = refl
 
   -- a known type represents the one that it has the name of
   pub type_refines : (n m : ResolvedType) → is_known tree n.element ≡ true → type_named tree n ≡ type_named tree m → type_at tree n ≡ Some (type_named tree m)

@@ -106,18 +106,7 @@ module _ (tree : Tree) where
   is_abstract_too (NamedKind.Instance code) (KindOf.Instance body) h = refl
   is_abstract_too (NamedKind.Virtual s code) (KindOf.Virtual t body) h = refl
   is_abstract_too (NamedKind.Abstract s) (KindOf.Abstract t) h = refl
-  is_abstract_too (NamedKind.Static code) (KindOf.Instance body) h = absurd h
-  is_abstract_too (NamedKind.Static code) (KindOf.Virtual t body) h = absurd h
-  is_abstract_too (NamedKind.Static code) (KindOf.Abstract t) h = absurd h
-  is_abstract_too (NamedKind.Instance code) (KindOf.Static body) h = absurd h
-  is_abstract_too (NamedKind.Instance code) (KindOf.Virtual t body) h = absurd h
-  is_abstract_too (NamedKind.Instance code) (KindOf.Abstract t) h = absurd h
-  is_abstract_too (NamedKind.Virtual s code) (KindOf.Static body) h = absurd h
-  is_abstract_too (NamedKind.Virtual s code) (KindOf.Instance body) h = absurd h
-  is_abstract_too (NamedKind.Virtual s code) (KindOf.Abstract t) h = absurd h
-  is_abstract_too (NamedKind.Abstract s) (KindOf.Static body) h = absurd h
-  is_abstract_too (NamedKind.Abstract s) (KindOf.Instance body) h = absurd h
-  is_abstract_too (NamedKind.Abstract s) (KindOf.Virtual t body) h = absurd h
+  is_abstract_too _ _ h = absurd h
 
   pub method_there : (b : Bool) (r : MethodReference) (f : MethodId) (k : ResolvedClass) (x : ResolvedMethod) (is : IsMethod tree b r f) → IsClassAt tree f.class k → slice_get k.methods f.index ≡ Some x → IsCallable tree r.signature is.found x
   method_there b r f k x is (name, d, at, alike) e =

@@ -49,11 +49,10 @@ module _ (tree : Tree) where
     types : (e : Element) (n : ℕ) → IsTrue (is_reference_element e n) → IsUnderObject (typed e n)
     types Object n r = objects n
     types String n r = under_parent (typed String n) (typed Object n) refl (objects n)
-    types Int32 zero r = never r
-    types Int64 zero r = never r
     types Int32 (suc n) r = under_parent (typed Int32 (suc n)) (typed Object n) refl (objects n)
     types Int64 (suc n) r = under_parent (typed Int64 (suc n)) (typed Object n) refl (objects n)
     types (Class c) n r = classes (longest_chain tree) c (chain_ends tree (no_cycle tree legal) c (suc (longest_chain tree)) (omega arith)) n
+    types _ _ r = never r
 
     pub object_above : (a : DeclaredType) → IsTrue (is_reference a) → IsUnderObject a
     object_above a r = types a.element a.brackets r

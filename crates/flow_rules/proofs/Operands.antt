@@ -9,14 +9,13 @@ use Rattle.cil_model.specs.FlowRules.{take_fitting, take_operands}
 module _ (tree : Tree) where
   -- the operands of one list below those of another
   pub fitting_joined : (ts us : List DeclaredType) (st : List StackType) → take_fitting tree (ts ++ us) st ≡ option_and_then (take_fitting tree us) (take_fitting tree ts st)
-  fitting_joined [] us st = refl
-  fitting_joined (t ∷ ts) us [] = refl
   fitting_joined (t ∷ ts) us (a ∷ st) = by_test (fits tree a t) (fitting_joined ts us st)
     where
       by_test : (b : Bool) → take_fitting tree (ts ++ us) st ≡ option_and_then (take_fitting tree us) (take_fitting tree ts st) →
           (if b then take_fitting tree (ts ++ us) st else None) ≡ option_and_then (take_fitting tree us) (if b then take_fitting tree ts st else None)
       by_test true further = further
       by_test false further = refl
+  fitting_joined _ _ _ = refl
 
   -- the owner lies below the other operands
   pub owner_below : (o : DeclaredType) (ps : List DeclaredType) (st : List StackType) → take_operands tree (o ∷ ps) st ≡ option_and_then (take_operands tree (o ∷ [])) (take_operands tree ps st)

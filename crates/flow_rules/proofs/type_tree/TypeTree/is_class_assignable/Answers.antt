@@ -1,16 +1,11 @@
-use Rattle.std.proofs.Common.{arith, ◌≡◌, ◌-◌, ◌<◌, ℕ, true, false, Some, sym, ap, ◌∙◌}
+use Rattle.std.proofs.Common.{arith, ◌≡◌, ◌-◌, ◌<◌, ℕ, Some, sym, ap, ◌∙◌}
 use Rattle.std.specs.Option.{is_some as has_some}
 use Rattle.cil_model.specs.Assignable.{is_class_assignable}
 use Rattle.cil_model.specs.Chains.{longest_chain}
+use Rattle.cil_model.proofs.SameLaws.{never}
 use Rattle.flow_rules.specs.StackTypes.{class_named}
 use Rattle.flow_rules.proofs.ChainNumbers.{is_along, found_here, found_nowhere, found_later, based_known}
 use Rattle.flow_rules.proofs.type_tree.TypeTree.is_class_assignable.Goals as goal
-
-never : {A : Type 0} → false ≡ true → A
-never {A} e = absurd (lost e)
-  where
-    lost : false ≡ true → ⊥
-    lost h = cc
 
 pub returns-in_default : goal.returns-in_default
 returns-in_default c = never (sym (ap has_some (c.class.ensures.beyond c.in_default.is)) ∙ c.loop-step.invariant.known)
