@@ -8,6 +8,7 @@ use Rattle.cil_model.specs.declared.trees.Tree.{Tree}
 use Rattle.cil_model.specs.Same.{same_class, same_element}
 use Rattle.cil_model.specs.Assignable.{is_reference_element, is_class_assignable, is_element_assignable, is_assignable_at}
 use Rattle.cil_model.proofs.SameLaws.{same_class_equal, same_class_itself, same_element_equal}
+use Rattle.resolved_code.proofs.ListLaws.Tests.{and_false}
 
 module _ (tree : Tree) where
   -- a class is assignable to itself
@@ -15,43 +16,21 @@ module _ (tree : Tree) where
   class_itself c = or_left _ _ (or_left _ _ (same_class_itself c))
 
   element_itself : (e : Element) → is_element_assignable tree e e ≡ true
-  element_itself Int32 = refl
-  element_itself Int64 = refl
-  element_itself Object = refl
-  element_itself String = refl
   element_itself (Class c) = class_itself c
+  element_itself _ = refl
 
   -- the same type, or an element that is assignable where both are references
   one_level : (e f : Element) → (same_element e f && true) || (is_reference_element e 0 && is_reference_element f 0 && is_element_assignable tree e f) ≡ is_element_assignable tree e f
-  one_level Int32 Int32 = refl
-  one_level Int32 Int64 = refl
-  one_level Int32 Object = refl
-  one_level Int32 String = refl
-  one_level Int32 (Class d) = refl
-  one_level Int64 Int32 = refl
-  one_level Int64 Int64 = refl
-  one_level Int64 Object = refl
-  one_level Int64 String = refl
-  one_level Int64 (Class d) = refl
-  one_level Object Int32 = refl
-  one_level Object Int64 = refl
-  one_level Object Object = refl
-  one_level Object String = refl
-  one_level Object (Class d) = refl
-  one_level String Int32 = refl
-  one_level String Int64 = refl
-  one_level String Object = refl
-  one_level String String = refl
-  one_level String (Class d) = refl
-  one_level (Class c) Int32 = refl
-  one_level (Class c) Int64 = refl
-  one_level (Class c) Object = refl
-  one_level (Class c) String = refl
   one_level (Class c) (Class d) = by_same (same_class c d) refl
     where
       by_same : (b : Bool) → same_class c d ≡ b → (b && true) || is_class_assignable tree c d ≡ is_class_assignable tree c d
       by_same false h = refl
       by_same true h = sym (ap (is_class_assignable tree c) (sym (same_class_equal c d h)) ∙ class_itself c)
+  one_level Int32 Object = refl
+  one_level Int64 Object = refl
+  one_level Object Object = refl
+  one_level String Object = refl
+  one_level _ _ = refl
 
   -- the test when both types have the same number of brackets
   pub with_same_count : (e f : Element) (n : ℕ) → is_assignable_at tree e n f n ≡ is_element_assignable tree e f
@@ -70,8 +49,6 @@ module _ (tree : Tree) where
 
   -- a type with fewer brackets is assignable to none with more
   pub with_fewer : (e f : Element) (m n : ℕ) → m < n → is_assignable_at tree e m f n ≡ false
-  with_fewer e f zero zero h = absurd (omega (arith, h))
-  with_fewer e f (suc m) zero h = absurd (omega (arith, h))
   with_fewer e f zero (suc n) h = refl
   with_fewer e f (suc m) (suc n) h =
       let l : m < n = omega (arith, h) in
@@ -81,17 +58,11 @@ module _ (tree : Tree) where
       none (same_element e f) (is_reference_element e m) (is_reference_element f n)
     where
       none : (a b d : Bool) → (a && false) || (b && d && false) ≡ false
-      none true true true = refl
-      none true true false = refl
-      none true false d = refl
-      none false true true = refl
-      none false true false = refl
-      none false false d = refl
+      none a b d = rw (and_false a, and_false (b && d)) refl
+  with_fewer e f _ _ h = absurd (omega (arith, h))
 
   -- a type with more brackets is assignable to `object` with fewer alone
   pub with_more : (e f : Element) (m n : ℕ) → n < m → is_assignable_at tree e m f n ≡ same_element f Object
-  with_more e f zero zero h = absurd (omega (arith, h))
-  with_more e f zero (suc n) h = absurd (omega (arith, h))
   with_more e f (suc m) zero h = refl
   with_more e f (suc m) (suc n) h =
       let l : n < m = omega (arith, h) in
@@ -106,10 +77,7 @@ module _ (tree : Tree) where
         where
           of_element : (g : Element) → is_reference_element g 0 && same_element g Object ≡ same_element g Object
           of_element Int32 = refl
-          of_element Int64 = refl
-          of_element Object = refl
-          of_element String = refl
-          of_element (Class c) = refl
+          of_element _ = refl
 
       joined : (a b c : Bool) → b && c ≡ c → (a && false) || (b && c) ≡ c
       joined true b c p = p
@@ -118,3 +86,4 @@ module _ (tree : Tree) where
       inner : (a : Bool) (m : ℕ) → n < m → (a && false) || (is_reference_element e m && is_reference_element f n && same_element f Object) ≡ same_element f Object
       inner a zero l = absurd (omega (arith, l))
       inner a (suc k) l = joined a (is_reference_element f n) (same_element f Object) (reference n)
+  with_more e f _ _ h = absurd (omega (arith, h))

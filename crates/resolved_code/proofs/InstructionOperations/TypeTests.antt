@@ -38,38 +38,17 @@ module _ (tree : Tree) where
       by_name (Some c) p = let both : Some (ClassElement c) ≡ Some e = sym (ap (option_map ClassElement) p) ∙ h in let q : ClassElement c ≡ e = cc in subst (Refines (Class n)) q (a_class n c p)
 
   element_results_in : (n m : ResolvedElement) (e f : Element) → Refines n e → Refines m f → IsResultOf tree (element_test n m) (is_element_assignable tree e f)
-  element_results_in _ _ _ _ an_int32 an_int32 = refl
-  element_results_in _ _ _ _ an_int32 an_int64 = refl
-  element_results_in _ _ _ _ an_int32 an_object = refl
-  element_results_in _ _ _ _ an_int32 a_string = refl
-  element_results_in _ _ _ _ an_int32 (a_class m d k) = refl
-  element_results_in _ _ _ _ an_int64 an_int32 = refl
-  element_results_in _ _ _ _ an_int64 an_int64 = refl
-  element_results_in _ _ _ _ an_int64 an_object = refl
-  element_results_in _ _ _ _ an_int64 a_string = refl
-  element_results_in _ _ _ _ an_int64 (a_class m d k) = refl
-  element_results_in _ _ _ _ an_object an_int32 = refl
-  element_results_in _ _ _ _ an_object an_int64 = refl
-  element_results_in _ _ _ _ an_object an_object = refl
-  element_results_in _ _ _ _ an_object a_string = refl
-  element_results_in _ _ _ _ an_object (a_class m d k) = refl
-  element_results_in _ _ _ _ a_string an_int32 = refl
-  element_results_in _ _ _ _ a_string an_int64 = refl
-  element_results_in _ _ _ _ a_string an_object = refl
-  element_results_in _ _ _ _ a_string a_string = refl
-  element_results_in _ _ _ _ a_string (a_class m d k) = refl
-  element_results_in _ _ _ _ (a_class n c h) an_int32 = refl
-  element_results_in _ _ _ _ (a_class n c h) an_int64 = refl
-  element_results_in _ _ _ _ (a_class n c h) an_object = refl
-  element_results_in _ _ _ _ (a_class n c h) a_string = refl
   element_results_in _ _ _ _ (a_class n c h) (a_class m d k) = (c, d, h, k, refl)
+  element_results_in _ _ _ _ an_int32 an_object = refl
+  element_results_in _ _ _ _ an_int64 an_object = refl
+  element_results_in _ _ _ _ an_object an_object = refl
+  element_results_in _ _ _ _ a_string an_object = refl
+  element_results_in _ _ _ _ _ _ = refl
 
   object_is : (m : ResolvedElement) (f : Element) → Refines m f → is_object m ≡ same_element f ObjectElement
   object_is _ _ an_int32 = refl
-  object_is _ _ an_int64 = refl
-  object_is _ _ an_object = refl
-  object_is _ _ a_string = refl
   object_is _ _ (a_class m d k) = refl
+  object_is _ _ _ = refl
 
   -- a type's element and brackets
   parts : (n : ResolvedType) (a : DeclaredType) → type_at tree n ≡ Some a → Refines n.element a.element × (n.brackets ≡ a.brackets)

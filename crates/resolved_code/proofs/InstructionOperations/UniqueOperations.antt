@@ -182,26 +182,6 @@ module _ (tree : Tree) (legal : IsLegal tree) where
 
   module _ (lines : List Line) where
     operation_is : (i : Instruction) (o : Operation) → IsOperation tree lines i o → operation_rule tree lines i ≡ Some o
-    operation_is _ _ IsOperation.no_operation = refl
-    operation_is _ _ IsOperation.load_null = refl
-    operation_is _ _ IsOperation.duplicate = refl
-    operation_is _ _ IsOperation.pop = refl
-    operation_is _ _ IsOperation.convert_int32 = refl
-    operation_is _ _ IsOperation.convert_int64 = refl
-    operation_is _ _ IsOperation.load_length = refl
-    operation_is _ _ IsOperation.return = refl
-    operation_is _ _ (IsOperation.load_int32 x) = refl
-    operation_is _ _ (IsOperation.load_int64 x) = refl
-    operation_is _ _ (IsOperation.load_argument x) = refl
-    operation_is _ _ (IsOperation.store_argument x) = refl
-    operation_is _ _ (IsOperation.load_local x) = refl
-    operation_is _ _ (IsOperation.store_local x) = refl
-    operation_is _ _ (IsOperation.binary x) = refl
-    operation_is _ _ (IsOperation.unary x) = refl
-    operation_is _ _ (IsOperation.shift x) = refl
-    operation_is _ _ (IsOperation.compare x) = refl
-    operation_is _ _ (IsOperation.load_element x) = refl
-    operation_is _ _ (IsOperation.store_element x) = refl
     operation_is _ _ (IsOperation.load_string s n there) = ap (option_map Resolved.LoadString) (literal_is s n there)
     operation_is _ _ (IsOperation.branch condition label index is) = ap (option_map (Resolved.Branch condition)) is
     operation_is _ _ (IsOperation.switch labels indices are) = ap (option_map Resolved.Switch) (ap all_some are ∙ all_there indices)
@@ -216,6 +196,7 @@ module _ (tree : Tree) (legal : IsLegal tree) where
     operation_is _ _ (IsOperation.call_virtual c name signature owner method named f) =
         with_owner_is c Resolved.CallVirtual (method_rule tree true (virtual_reference c name signature)) owner method named (method_is true (virtual_reference c name signature) method f)
     operation_is _ _ (IsOperation.new_object c parameters constructor_number f) = ap (option_map Resolved.NewObject) (method_is true (constructor_reference c parameters) constructor_number f)
+    operation_is _ _ _ = refl
 
     pub one_operation : (i : Instruction) (o p : Operation) → IsOperation tree lines i o → IsOperation tree lines i p → o ≡ p
     one_operation i o p h k = same_Some o p (sym (operation_is i o h) ∙ operation_is i p k)

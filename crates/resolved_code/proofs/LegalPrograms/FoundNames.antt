@@ -7,7 +7,7 @@ use Rattle.std.proofs.lemmas.List.Folds.{list_all-append, list_all-map}
 use Rattle.std.proofs.lemmas.Bool.{not-false, and_from}
 use Rattle.cil_model.specs.declared.types.ClassName.{ClassName}
 use Rattle.cil_model.specs.declared.types.Element.{Element}
-use Rattle.cil_model.specs.declared.types.Element.TheVariants.{Int32 as Int32Element, Int64 as Int64Element, Object as ObjectElement, String as StringElement, Class as ClassElement}
+use Rattle.cil_model.specs.declared.types.Element.TheVariants.{Class as ClassElement}
 use Rattle.cil_model.specs.declared.types.DeclaredType.{DeclaredType}
 use Rattle.cil_model.specs.declared.instructions.MethodName.{MethodName}
 use Rattle.cil_model.specs.declared.instructions.MethodName.TheVariants.{Constructor, Named as NamedMethod}
@@ -42,6 +42,7 @@ use Rattle.name_tables.specs.declared.ids.FieldId.{FieldId}
 use Rattle.name_tables.specs.declared.ids.MethodId.{MethodId}
 use Rattle.resolved_code.specs.declared.operations.Operation.{Operation}
 use Rattle.resolved_code.specs.Rules.{all_some, if_named, element_rule, type_rule, types_rule, field_id, method_id, with_owner, operation_rule, operations_rule, body_rule, kind_rule, resolved_method_rule, resolved_field_rule, class_rule, classes_rule}
+use Rattle.resolved_code.proofs.ListLaws.Tests.{found_alike}
 use Rattle.resolved_code.proofs.Numbers.Literals.{all_among_once}
 
 -- ---- tests
@@ -50,9 +51,10 @@ kept : {X Y : Type 0} (f : X → Y) (o : Option X) → is_some o ≡ true → is
 kept f None h = never h
 kept f (Some x) h = refl
 
-unkept : {X Y : Type 0} (f : X → Y) (o : Option X) → is_some (option_map f o) ≡ is_some o
-unkept f None = refl
-unkept f (Some x) = refl
+-- what a test needs is there where the test passes
+there_by : {X : Type 0} (o : Option X) (passes : Bool) → (o ≡ None → passes ≡ false) → passes ≡ true → is_some o ≡ true
+there_by None passes fails h = never (sym (fails refl) ∙ h)
+there_by (Some x) passes fails h = refl
 
 then_kept : {X Y : Type 0} (f : X → Option Y) (o : Option X) → is_some o ≡ true → ((x : X) → is_some (f x) ≡ true) → is_some (option_and_then f o) ≡ true
 then_kept f None h each = never h
@@ -82,9 +84,6 @@ named_there : {X Y : Type 0} (rule : X → Option Y) (o : Option X) → list_all
 named_there rule None h = refl
 named_there rule (Some x) h = kept Some (rule x) (both_first _ _ h)
 
-found_alike : {X Y Z : Type 0} (f : X → Z) (g : Y → Z) (o : Option X) (p : Option Y) → option_map f o ≡ option_map g p → is_some p ≡ true → is_some o ≡ true
-found_alike f g o p e h = sym (unkept f o) ∙ ap is_some e ∙ unkept g p ∙ h
-
 module _ (tree : Tree) where
   abbrev is_known : ClassName → Bool
   is_known c = is_some (class_number tree c)
@@ -92,38 +91,25 @@ module _ (tree : Tree) where
   -- ---- classes
 
   declared_known : (c : ClassName) → is_some (declaration_of tree c) ≡ true → is_known c ≡ true
-  declared_known c h = by_number (class_number tree c) refl
-    where
-      by_number : (o : Option ℕ) → class_number tree c ≡ o → is_some o ≡ true
-      by_number None e = never (sym (ap is_some (declared_at_none tree c e)) ∙ h)
-      by_number (Some n) e = refl
+  declared_known c h = there_by (class_number tree c) (is_some (declaration_of tree c)) (λ e. ap is_some (declared_at_none tree c e)) h
 
   abbrev is_class : ClassKind → Bool
   is_class k = not (is_interface_kind k)
 
-  source_there : {Y : Type 0} (f : Class → Y) (s : Option Class) → (passes_source is_class s || passes_source is_interface_kind s) || false ≡ true → is_some (option_map f s) ≡ true
-  source_there f None h = never h
-  source_there f (Some k) h = refl
+  -- a name that resolves and passes a test that only declared names pass has a number
+  known_at : (test : ClassName → Bool) → ((n : List ℕ) → source_class tree (record { assembly = None; name = n }) ≡ None → test (record { assembly = None; name = n }) ≡ false) →
+      (o : Option (List ℕ)) (n : List ℕ) → is_resolved tree (record { assembly = o; name = n }) ≡ true → test (record { assembly = o; name = n }) ≡ true → is_known (record { assembly = o; name = n }) ≡ true
+  known_at test fails (Some a) n r p = declared_known (record { assembly = Some a; name = n }) (both_second _ _ r)
+  known_at test fails None n r p = let c : ClassName = record { assembly = None; name = n } in declared_known c (kept _ (source_class tree c) (there_by (source_class tree c) (test c) (fails n) p))
 
-  base_there : {Y : Type 0} (f : Class → Y) (s : Option Class) → (passes_source is_class s || false) || false ≡ true → is_some (option_map f s) ≡ true
-  base_there f None h = never h
-  base_there f (Some k) h = refl
+  type_known : (c : ClassName) → is_resolved tree c ≡ true → is_possible_type tree c ≡ true → is_known c ≡ true
+  type_known c = known_at (is_possible_type tree) (λ n. ap (λ s. (passes_source is_class s || passes_source is_interface_kind s) || false)) c.assembly c.name
 
-  interface_there : {Y : Type 0} (f : Class → Y) (s : Option Class) → passes_source is_interface_kind s ≡ true → is_some (option_map f s) ≡ true
-  interface_there f None h = never h
-  interface_there f (Some k) h = refl
+  base_known : (c : ClassName) → is_resolved tree c ≡ true → is_possible_base tree c ≡ true → is_known c ≡ true
+  base_known c = known_at (is_possible_base tree) (λ n. ap (λ s. (passes_source is_class s || false) || false)) c.assembly c.name
 
-  type_known_at : (o : Option (List ℕ)) (n : List ℕ) → is_resolved tree (record { assembly = o; name = n }) ≡ true → is_possible_type tree (record { assembly = o; name = n }) ≡ true → is_known (record { assembly = o; name = n }) ≡ true
-  type_known_at (Some a) n r p = declared_known (record { assembly = Some a; name = n }) (both_second _ _ r)
-  type_known_at None n r p = declared_known (record { assembly = None; name = n }) (source_there _ (source_class tree (record { assembly = None; name = n })) p)
-
-  base_known_at : (o : Option (List ℕ)) (n : List ℕ) → is_resolved tree (record { assembly = o; name = n }) ≡ true → is_possible_base tree (record { assembly = o; name = n }) ≡ true → is_known (record { assembly = o; name = n }) ≡ true
-  base_known_at (Some a) n r p = declared_known (record { assembly = Some a; name = n }) (both_second _ _ r)
-  base_known_at None n r p = declared_known (record { assembly = None; name = n }) (base_there _ (source_class tree (record { assembly = None; name = n })) p)
-
-  interface_known_at : (o : Option (List ℕ)) (n : List ℕ) → is_resolved tree (record { assembly = o; name = n }) ≡ true → is_source_interface tree (record { assembly = o; name = n }) ≡ true → is_known (record { assembly = o; name = n }) ≡ true
-  interface_known_at (Some a) n r p = declared_known (record { assembly = Some a; name = n }) (both_second _ _ r)
-  interface_known_at None n r p = declared_known (record { assembly = None; name = n }) (interface_there _ (source_class tree (record { assembly = None; name = n })) p)
+  interface_known : (c : ClassName) → is_resolved tree c ≡ true → is_source_interface tree c ≡ true → is_known c ≡ true
+  interface_known c = known_at (is_source_interface tree) (λ n. ap (passes_source is_interface_kind)) c.assembly c.name
 
   -- ---- types
 
@@ -137,37 +123,26 @@ module _ (tree : Tree) where
   type_found t h = kept _ (element_rule tree t.element) (by_element t.element h)
     where
       by_element : (e : Element) → option_map_or (λ c. is_resolved tree c && is_possible_type tree c) (class_of_element e) true ≡ true → is_some (element_rule tree e) ≡ true
-      by_element Int32Element k = refl
-      by_element Int64Element k = refl
-      by_element ObjectElement k = refl
-      by_element StringElement k = refl
-      by_element (ClassElement c) k = kept _ (class_number tree c) (type_known_at c.assembly c.name (both_first _ _ k) (both_second _ _ k))
+      by_element (ClassElement c) k = kept _ (class_number tree c) (type_known c (both_first _ _ k) (both_second _ _ k))
+      by_element _ _ = refl
 
   -- ---- members
 
   field_there : (is_static : Bool) (r : FieldReference) → is_some (find_field tree is_static r) ≡ true → is_some (field_number tree is_static r) ≡ true
-  field_there is_static r h = found_alike (field_at tree) Some (field_number tree is_static r) (find_field tree is_static r) (field_has_id tree is_static r) h
+  field_there is_static r h = found_alike (field_at tree) Some (field_number tree is_static r) (find_field tree is_static r) (field_has_id tree is_static r) ∙ h
 
   field_owner : (is_static : Bool) (r : FieldReference) → is_some (field_number tree is_static r) ≡ true → is_known r.owner ≡ true
-  field_owner is_static r h = by_number (class_number tree r.owner) refl
-    where
-      by_number : (o : Option ℕ) → class_number tree r.owner ≡ o → is_some o ≡ true
-      by_number None e = never (sym (ap (λ ns. is_some (nearest_number (index_in (λ d. d.fields) (same_field (record { is_static = is_static; field_type = r.field_type; name = r.name })) tree) ns)) (numbers_of_unknown tree (longest_chain tree) r.owner e)) ∙ h)
-      by_number (Some n) e = refl
+  field_owner is_static r h = there_by (class_number tree r.owner) (is_some (field_number tree is_static r)) (λ e. ap (λ ns. is_some (nearest_number (index_in (λ d. d.fields) (same_field (record { is_static = is_static; field_type = r.field_type; name = r.name })) tree) ns)) (numbers_of_unknown tree (longest_chain tree) r.owner e)) h
 
   method_there : (is_instance : Bool) (r : MethodReference) → is_some (find_method tree is_instance r) ≡ true → is_some (method_number tree is_instance r) ≡ true
-  method_there is_instance r h = found_alike (method_at tree) Some (method_number tree is_instance r) (find_method tree is_instance r) (method_has_id tree is_instance r) h
+  method_there is_instance r h = found_alike (method_at tree) Some (method_number tree is_instance r) (find_method tree is_instance r) (method_has_id tree is_instance r) ∙ h
 
   none_searched : (name : MethodName) (owner : ClassName) → class_number tree owner ≡ None → filter_map (class_number tree) (classes_searched tree name owner) ≡ []
   none_searched Constructor owner e = ap (λ o. cons_option o []) e
   none_searched (NamedMethod name) owner e = numbers_of_unknown tree (longest_chain tree) owner e
 
   method_owner : (is_instance : Bool) (r : MethodReference) → is_some (method_number tree is_instance r) ≡ true → is_known r.owner ≡ true
-  method_owner is_instance r h = by_number (class_number tree r.owner) refl
-    where
-      by_number : (o : Option ℕ) → class_number tree r.owner ≡ o → is_some o ≡ true
-      by_number None e = never (sym (ap (λ ns. is_some (nearest_number (index_in (λ d. d.methods) (λ m. same_call_identity (record { name = r.name; signature = r.signature }, not is_instance) (call_identity_of m)) tree) ns)) (none_searched r.name r.owner e)) ∙ h)
-      by_number (Some n) e = refl
+  method_owner is_instance r h = there_by (class_number tree r.owner) (is_some (method_number tree is_instance r)) (λ e. ap (λ ns. is_some (nearest_number (index_in (λ d. d.methods) (λ m. same_call_identity (record { name = r.name; signature = r.signature }, not is_instance) (call_identity_of m)) tree) ns)) (none_searched r.name r.owner e)) h
 
   -- ---- instructions
 
@@ -198,23 +173,7 @@ module _ (tree : Tree) where
     is_operation_found i = is_some (operation_rule tree lines i)
 
     operation_found : (i : Instruction) → operand_test i ≡ true → label_test lines i ≡ true → finds_member tree i ≡ true → literal_test i ≡ true → is_operation_found i ≡ true
-    operation_found Named.NoOperation t l m s = refl
-    operation_found (Named.LoadInt32 v) t l m s = refl
-    operation_found (Named.LoadInt64 v) t l m s = refl
-    operation_found Named.LoadNull t l m s = refl
     operation_found (Named.LoadString c) t l m s = kept _ (position_from (same_text c) 0 (literals_of tree)) s
-    operation_found (Named.LoadArgument n) t l m s = refl
-    operation_found (Named.StoreArgument n) t l m s = refl
-    operation_found (Named.LoadLocal n) t l m s = refl
-    operation_found (Named.StoreLocal n) t l m s = refl
-    operation_found Named.Duplicate t l m s = refl
-    operation_found Named.Pop t l m s = refl
-    operation_found (Named.Binary op) t l m s = refl
-    operation_found (Named.Unary op) t l m s = refl
-    operation_found (Named.Shift op) t l m s = refl
-    operation_found (Named.Compare op) t l m s = refl
-    operation_found Named.ConvertInt32 t l m s = refl
-    operation_found Named.ConvertInt64 t l m s = refl
     operation_found (Named.Branch condition label) t l m s = kept _ (pc_of label lines) (both_first _ _ l)
     operation_found (Named.Switch labels) t l m s = kept _ (all_some (map (λ label. pc_of label lines) labels)) (all_there (λ label. pc_of label lines) labels l)
     operation_found (Named.LoadField r) t l m s = on_field lines _ r false m
@@ -222,16 +181,13 @@ module _ (tree : Tree) where
     operation_found (Named.LoadStaticField r) t l m s = kept _ (option_map field_id (field_number tree true r)) (kept _ (field_number tree true r) (field_there true r m))
     operation_found (Named.StoreStaticField r) t l m s = kept _ (option_map field_id (field_number tree true r)) (kept _ (field_number tree true r) (field_there true r m))
     operation_found (Named.NewArray d) t l m s = kept _ (type_rule tree d) (both_first _ _ t)
-    operation_found Named.LoadLength t l m s = refl
-    operation_found (Named.LoadElement kind) t l m s = refl
-    operation_found (Named.StoreElement kind) t l m s = refl
     operation_found (Named.CastClass d) t l m s = kept _ (type_rule tree d) (both_first _ _ t)
     operation_found (Named.IsInstance d) t l m s = kept _ (type_rule tree d) (both_first _ _ t)
     operation_found (Named.Call i r) t l m s = on_method _ r i m
     operation_found (Named.CallVirtual c name signature) t l m s = on_method _ (virtual_reference c name signature) true m
     operation_found (Named.NewObject c ps) t l m s =
         kept _ (option_map method_id (method_number tree true (constructor_reference c ps))) (kept _ (method_number tree true (constructor_reference c ps)) (method_there true (constructor_reference c ps) m))
-    operation_found Named.Return t l m s = refl
+    operation_found _ _ _ _ _ = refl
 
     operations_found : (ls : List Line) → list_all is_type_found (flat_map types_of_instruction (map (λ (x : Line). x.instruction) ls)) ≡ true → list_all (label_test lines) (map (λ (x : Line). x.instruction) ls) ≡ true →
         list_all (finds_member tree) (map (λ (x : Line). x.instruction) ls) ≡ true → list_all literal_test (map (λ (x : Line). x.instruction) ls) ≡ true → is_some (all_some (map (λ (x : Line). operation_rule tree lines x.instruction) ls)) ≡ true
@@ -291,8 +247,8 @@ module _ (tree : Tree) where
   class_found : (c : Class) → list_all (is_resolved tree) (heading c) ≡ true → class_finds tree c ≡ true → list_all is_type_found (map (λ (f : Field). f.field_type) (field_members c)) ≡ true → list_all is_method_found (method_members c) ≡ true →
       is_class_found (declared_as c.kind (field_members c) (method_members c)) ≡ true
   class_found c r k f m =
-      let bases = known_both (is_possible_base tree) (λ b. base_known_at b.assembly b.name) (bases_named c.kind) (all_first (is_resolved tree) (bases_named c.kind) (interfaces_named c.kind) r) (both_first _ _ k) in
-      let interfaces = known_both (is_source_interface tree) (λ b. interface_known_at b.assembly b.name) (interfaces_named c.kind) (all_second (is_resolved tree) (bases_named c.kind) (interfaces_named c.kind) r) (both_second _ _ k) in
+      let bases = known_both (is_possible_base tree) base_known (bases_named c.kind) (all_first (is_resolved tree) (bases_named c.kind) (interfaces_named c.kind) r) (both_first _ _ k) in
+      let interfaces = known_both (is_source_interface tree) interface_known (interfaces_named c.kind) (all_second (is_resolved tree) (bases_named c.kind) (interfaces_named c.kind) r) (both_second _ _ k) in
       then_kept _ (if_named (class_number tree) (base_named c.kind)) (named_there (class_number tree) (base_named c.kind) bases) (λ base.
       then_kept _ (all_some (map (class_number tree) (interfaces_named c.kind))) (all_there (class_number tree) (interfaces_named c.kind) interfaces) (λ found.
       then_kept _ (all_some (map (resolved_field_rule tree) (fields_unless_interface c.kind (field_members c)))) (fields_found c.kind (field_members c) f) (λ fields.

@@ -10,15 +10,8 @@ all_some_end {Y} (o ∷ os) ys y h = by_first (λ zs e. all_some_end os zs y e) 
   where
     by_first : ((zs : List Y) → all_some os ≡ Some zs → all_some (os ++ Some y ∷ []) ≡ Some (zs ++ y ∷ [])) → (p : Option Y) (q : Option (List Y)) → all_some os ≡ q → option_and_then (λ x. option_map (λ xs. x ∷ xs) q) p ≡ Some ys →
         option_and_then (λ x. option_map (λ xs. x ∷ xs) (all_some (os ++ Some y ∷ []))) p ≡ Some (ys ++ y ∷ [])
-    by_first further None q e k = absurd (lost k)
-      where
-        lost : None ≡ Some ys → ⊥
-        lost k' = cc
-    by_first further (Some x) None e k = absurd (lost k)
-      where
-        lost : None ≡ Some ys → ⊥
-        lost k' = cc
     by_first further (Some x) (Some zs) e k = let f : x ∷ zs ≡ ys = cc in ap (option_map (λ xs. x ∷ xs)) (further zs e) ∙ ap (λ ws. Some (ws ++ y ∷ [])) f
+    by_first further _ _ e k = absurd (cc k)
 
 -- one more item
 pub all_some_more : {X Y : Type 0} (rule : X → Option Y) (xs : List X) (i : ℕ) (x : X) (ys : List Y) (y : Y) → i < length xs → x ≡ get_or xs i x →

@@ -6,8 +6,7 @@ use Rattle.resolved_code.specs.ResolvedPrograms.{AllAlike}
 pub alike_length : {X Y : Type 0} (R : X → Y → Type 0) (xs : List X) (ys : List Y) → AllAlike R xs ys → length xs ≡ length ys
 alike_length R [] [] h = refl
 alike_length R (x ∷ xs) (y ∷ ys) h = ap suc (alike_length R xs ys h.1)
-alike_length R [] (y ∷ ys) h = absurd h
-alike_length R (x ∷ xs) [] h = absurd h
+alike_length _ _ _ h = absurd h
 
 -- the item that is related to one of the other list
 pub record AlikeTo {X Y : Type 0} (R : X → Y → Type 0) (xs : List X) (n : ℕ) (y : Y) : Type 0 where
@@ -23,13 +22,11 @@ alike_to R (x ∷ xs) (z ∷ zs) zero y h e =
 alike_to R (x ∷ xs) (z ∷ zs) (suc n) y h e =
     let further : AlikeTo R xs n y = alike_to R xs zs n y h.1 e in
     record { item = further.item; there = further.there; alike = further.alike }
-alike_to R [] (z ∷ zs) n y h e = absurd h
-alike_to R (x ∷ xs) [] n y h e = absurd h
+alike_to _ _ _ _ _ h _ = absurd h
 
 -- beyond the last of one list there is none of the other
 pub alike_beyond : {X Y : Type 0} (R : X → Y → Type 0) (xs : List X) (ys : List Y) → AllAlike R xs ys → (n : ℕ) → slice_get ys n ≡ None → slice_get xs n ≡ None
 alike_beyond R [] [] h n e = refl
 alike_beyond R (x ∷ xs) (z ∷ zs) h zero e = absurd (none_is_some z (sym e))
 alike_beyond R (x ∷ xs) (z ∷ zs) h (suc n) e = alike_beyond R xs zs h.1 n e
-alike_beyond R [] (z ∷ zs) h n e = absurd h
-alike_beyond R (x ∷ xs) [] h n e = absurd h
+alike_beyond _ _ _ h _ _ = absurd h

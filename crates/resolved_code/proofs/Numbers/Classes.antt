@@ -87,10 +87,9 @@ module _ (tree : Tree) where
       one_number h = let s : Some n ≡ Some m = sym e ∙ ap (class_number tree) h ∙ p in cc
 
       decided : (v : Bool) → (m == n) ≡ v → (w : Bool) → same_class c x ≡ w → v ≡ w
-      decided true h true k = refl
-      decided false h false k = refl
       decided true h false k = let i : same_class c x ≡ true = let P : ClassName → Type 0 = λ y. same_class c y ≡ true in subst P (one_name (sym (eqb-true m n h))) (same_class_itself c) in sym i ∙ k
       decided false h true k = sym h ∙ eq-eqb m n (sym (one_number (same_class_equal c x k)))
+      decided _ _ _ _ = refl
 
   -- a number is among those of names where its name is among them
   pub among_numbers : (c : ClassName) (n : ℕ) → class_number tree c ≡ Some n → (cs : List ClassName) → list_any (λ m. m == n) (filter_map (class_number tree) cs) ≡ list_any (same_class c) cs

@@ -44,11 +44,10 @@ module _ (tree : Tree) where
       where
         by_kind : (v s : Bool) (o : Option ClassName) (p : Option ℕ) → IsTied o p → IsTied (cond v (Some (cond s c (unwrap_or o c))) None) (cond v (Some (cond s n (unwrap_or p n))) None)
         by_kind false s o p h = tt
-        by_kind true true o p h = e
-        by_kind true false None None h = e
         by_kind true false (Some d) (Some i) h = h
         by_kind true false None (Some i) h = absurd h
         by_kind true false (Some d) None h = absurd h
+        by_kind _ _ _ _ _ = e
 
     tied_over : (c : ClassName) (n : ℕ) (f : Option Method) (o : Option ClassName) (p : Option ℕ) → class_number tree c ≡ Some n → IsTied o p → IsTied (option_map_or (slot_filled c o) f o) (option_map_or (slot_filled_at n p) f p)
     tied_over c n None o p e h = h
@@ -69,8 +68,7 @@ module _ (tree : Tree) where
     pub same_slot : (s : ClassName) (i : ℕ) → class_number tree s ≡ Some i → (o : Option ClassName) (p : Option ℕ) → IsTied o p → same_options same_class o (Some s) ≡ option_map_or (λ x. x == i) p false
     same_slot s i e None None h = refl
     same_slot s i e (Some c) (Some n) h = same_by_number c s n i h e
-    same_slot s i e None (Some n) h = absurd h
-    same_slot s i e (Some c) None h = absurd h
+    same_slot _ _ _ _ _ h = absurd h
 
     abbrev is_abstract_in : Option Method → Bool → Bool
     is_abstract_in f rest = option_map_or (λ (m : Method). is_abstract_method m.kind) f rest
@@ -78,9 +76,8 @@ module _ (tree : Tree) where
     filled_by : (c : ClassName) (f : Option Method) (fills : Bool) (rest : Option (ClassName × Method)) →
         is_filled_abstract (option_map_or (λ m. cond fills (Some (c, m)) rest) f rest) ≡ cond fills (is_abstract_in f (is_filled_abstract rest)) (is_filled_abstract rest)
     filled_by c None true rest = refl
-    filled_by c None false rest = refl
     filled_by c (Some m) true rest = refl
-    filled_by c (Some m) false rest = refl
+    filled_by _ _ _ _ = refl
 
     pub filled : (s : ClassName) (i : ℕ) → class_number tree s ≡ Some i → (cs : List ClassName) → is_filled_abstract (implementation_along tree k.name k.signature s cs) ≡ abstract_by_id tree k i (numbers cs)
     filled s i e [] = refl
@@ -111,8 +108,7 @@ module _ (tree : Tree) where
         by_slot : (o : Option ClassName) (p : Option ℕ) → IsTied o p → is_filled_abstract (option_and_then (λ slot. implementation_along tree k.name k.signature slot (chain_of tree d)) o) ≡ option_map_or (λ slot. abstract_by_id tree k slot (chain_numbers tree d)) p false
         by_slot None None h = refl
         by_slot (Some s) (Some i) h = filled s i h (chain_of tree d)
-        by_slot None (Some i) h = absurd h
-        by_slot (Some s) None h = absurd h
+        by_slot _ _ h = absurd h
 
     -- the nearest inherited method
     pub nearest_plain : (cs : List ClassName) → is_found_not_virtual (nearest (method_declared tree k.name k.signature) cs) ≡ concrete_by_id tree k (numbers cs)

@@ -5,7 +5,7 @@ use Rattle.cil_model.specs.declared.trees.Tree.{Tree}
 use Rattle.cil_model.specs.Legality.{IsLegal}
 use Rattle.resolved_code.specs.declared.classes.ResolvedClass.{ResolvedClass}
 use Rattle.resolved_code.specs.declared.errors.ResolveError.{ResolveError}
-use Rattle.resolved_code.specs.declared.errors.ResolveError.TheVariants.{Unresolved, OutOfMemory}
+use Rattle.resolved_code.specs.declared.errors.ResolveError.TheVariants.{Unresolved}
 use Rattle.resolved_code.specs.Outcomes.{Gives}
 use Rattle.resolved_code.specs.ResolvedPrograms.{AreResolved}
 use Rattle.resolved_code.specs.Rules.{classes_rule}
@@ -18,6 +18,5 @@ module _ (tree : Tree) where
   all_resolved (Err error) e = tt
 
   pub all_found : (r : Result (List ResolvedClass) ResolveError) → Gives r (classes_rule tree) → IsLegal tree → r ≢ Err Unresolved
-  all_found (Ok classes) e legal = λ same. cc
-  all_found (Err OutOfMemory) e legal = λ same. cc
   all_found (Err Unresolved) e legal = λ same. let lost : is_some {T = List ResolvedClass} None ≡ true = sym (ap is_some e) ∙ classes_found tree legal in cc
+  all_found _ e legal = λ same. cc
