@@ -17,11 +17,10 @@ use Rattle.schedule_text.proofs.ItemLemmas.{one_item}
 
 pub same_items : (words : List (List ℕ)) (items others : List Item) → AreItems words items → AreItems words others → items ≡ others
 same_items [] [] [] h k = refl
-same_items [] [] (other ∷ others) h k = absurd k
 same_items [] (item ∷ items) others h k = absurd h
 same_items (word ∷ words) [] others h k = absurd h
-same_items (word ∷ words) (item ∷ items) [] h k = absurd k
 same_items (word ∷ words) (item ∷ items) (other ∷ others) h k = ap₂ (λ i is. i ∷ is) (one_item word item other h.0 k.0) (same_items words items others h.1 k.1)
+same_items _ _ _ _ k = absurd k
 
 pub same_events : (words : List (List ℕ)) (events others : List Event) → AreRead words events → AreRead words others → events ≡ others
 same_events words events others (items, are, is, _, _) (items', are', is', _, _) = is ∙ ap events_of (same_items words items items' are are') ∙ sym is'
@@ -31,17 +30,15 @@ same_events words events others (items, are, is, _, _) (items', are', is', _, _)
 -- the items before it, its own and those after it
 items_at : (before : List (List ℕ)) (word : List ℕ) (after : List (List ℕ)) (items : List Item) → AreItems (before ++ word ∷ after) items →
     (front : List Item) × (item : Item) × (back : List Item) × (items ≡ front ++ item ∷ back) × AreItems before front × IsItem word item
-items_at [] word after [] h = absurd h
 items_at [] word after (item ∷ items) h = ([], item, items, refl, tt, h.0)
-items_at (w ∷ before) word after [] h = absurd h
 items_at (w ∷ before) word after (i ∷ items) h =
     let more = items_at before word after items h.1 in
     (i ∷ more.0, more.1, more.2, ap (λ is. i ∷ is) more.3, (h.0, more.4), more.5)
+items_at _ _ _ _ h = absurd h
 
 pub both : (a b : Bool) → (a && b) ≡ true → (a ≡ true) × (b ≡ true)
 both true true e = (refl, refl)
-both true false e = cc
-both false b e = cc
+both _ _ e = cc
 
 pub first_passes : (test : Event → Bool) (n : ℕ) (event : Event) → 0 < n → list_all test (replicate n event) ≡ true → test event ≡ true
 first_passes test zero event some e = absurd (omega arith)
@@ -119,9 +116,6 @@ positions {A = A} (a ∷ xs) (b ∷ ys) x y xs' ys' e = under (heads e) (positio
     under same (inr (inr (more, is))) = inr (inr (more, ap₂ (λ c cs. c ∷ cs) same is))
 
 same_fault : (before : ℕ) (word : List ℕ) (error other : ScheduleError) → IsFaulty before word error → IsFaulty before word other → error ≢ OutOfMemory → other ≢ OutOfMemory → error ≡ other
-same_fault before word NoItem NoItem h k e f = refl
-same_fault before word NoThread NoThread h k e f = refl
-same_fault before word TooLong TooLong h k e f = refl
 same_fault before word OutOfMemory other h k e f = absurd (e refl)
 same_fault before word error OutOfMemory h k e f = absurd (f refl)
 same_fault before word NoItem NoThread h (item, is, _) e f = absurd (h item is)
@@ -132,6 +126,7 @@ same_fault before word NoThread TooLong (item, is, none) (other, other_is, (has_
     absurd (true≢false (sym has_number ∙ ap (λ i. has_thread_number i.event) (one_item word other item other_is is) ∙ none))
 same_fault before word TooLong NoThread (other, other_is, (has_number, _)) (item, is, none) e f =
     absurd (true≢false (sym has_number ∙ ap (λ i. has_thread_number i.event) (one_item word other item other_is is) ∙ none))
+same_fault _ _ _ _ _ _ _ _ = refl
 
 pub same_first_fault : (words : List (List ℕ)) (error other : ScheduleError) → IsFirstFault words error → IsFirstFault words other → error ≢ OutOfMemory → other ≢ OutOfMemory → error ≡ other
 same_first_fault words error other (before, word, after, events, split, read, fault) (before', word', after', events', split', read', fault') e f =

@@ -40,8 +40,7 @@ is_count digits e =
   where
     both : (a b : Bool) → (a && b) ≡ true → (a ≡ true) × (b ≡ true)
     both true true e = (refl, refl)
-    both true false e = cc
-    both false b e = cc
+    both _ _ e = cc
 
 -- ---- names have no star
 

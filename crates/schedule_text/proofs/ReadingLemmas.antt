@@ -84,9 +84,8 @@ refused P (Err e) h f = f e h
 
 AreItems-push : (words : List (List ℕ)) (items : List Item) (word : List ℕ) (item : Item) → AreItems words items → IsItem word item → AreItems (words ++ word ∷ []) (items ++ item ∷ [])
 AreItems-push [] [] word item h is = (is, tt)
-AreItems-push [] (i ∷ items) word item h is = absurd h
-AreItems-push (w ∷ words) [] word item h is = absurd h
 AreItems-push (w ∷ words) (i ∷ items) word item (first, others) is = (first, AreItems-push words items word item others is)
+AreItems-push _ _ _ _ h _ = absurd h
 
 pub events_of-push : (items : List Item) (item : Item) → events_of (items ++ item ∷ []) ≡ events_of items ++ replicate item.count item.event
 events_of-push items item =

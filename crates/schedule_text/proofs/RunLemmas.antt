@@ -30,13 +30,12 @@ after_run events item (next ∷ items) runs =
 
 same_counts : (m n : ℕ) (event : Event) (xs ys : List Event) → BeginsOtherwise event xs → BeginsOtherwise event ys → replicate m event ++ xs ≡ replicate n event ++ ys → (m ≡ n) × (xs ≡ ys)
 same_counts zero zero event xs ys differs differs' e = (refl, e)
-same_counts zero (suc n) event [] ys differs differs' e = cc
 same_counts zero (suc n) event (x ∷ xs) ys differs differs' e = absurd (differs (sym (heads e)))
-same_counts (suc m) zero event xs [] differs differs' e = cc
 same_counts (suc m) zero event xs (y ∷ ys) differs differs' e = absurd (differs' (heads e))
 same_counts (suc m) (suc n) event xs ys differs differs' e =
     let rest = same_counts m n event xs ys differs differs' (tails e) in
     (ap suc rest.0, rest.1)
+same_counts _ _ event _ _ differs differs' e = cc
 
 no_events : (event : Event) (more : List Event) → [] ≡ event ∷ more → ⊥
 no_events event more e = cc

@@ -59,12 +59,7 @@ same_is_equal : (event other : Event) → same_event event other ≡ true → ev
 same_is_equal (Step thread) (Step other) e = ap Step (eqb-true thread other e)
 same_is_equal (Ack thread) (Ack other) e = ap Ack (eqb-true thread other e)
 same_is_equal Gc Gc e = refl
-same_is_equal (Step thread) (Ack other) e = cc
-same_is_equal (Step thread) Gc e = cc
-same_is_equal (Ack thread) (Step other) e = cc
-same_is_equal (Ack thread) Gc e = cc
-same_is_equal Gc (Step other) e = cc
-same_is_equal Gc (Ack other) e = cc
+same_is_equal _ _ e = cc
 
 itself : (event : Event) → same_event event event ≡ true
 itself (Step thread) = eq-eqb thread thread refl
