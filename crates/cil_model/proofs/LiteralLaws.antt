@@ -7,11 +7,11 @@ use Rattle.std.proofs.lemmas.List.Elements.{filter-append}
 use Rattle.cil_model.specs.Mentions.{each_once}
 
 module _ {X : Type 0} (same : X → X → Bool) (laws : IsEquivalence same) where
-  abbrev others : X → List X → List X
+  abbrev pub others : X → List X → List X
   others y es = filter (λ z. not (same y z)) es
 
   -- an item that is none of y's is not dropped with them
-  any_kept : (y x : X) → same y x ≡ false → (es : List X) → list_any (λ z. same z x) (others y es) ≡ list_any (λ z. same z x) es
+  pub any_kept : (y x : X) → same y x ≡ false → (es : List X) → list_any (λ z. same z x) (others y es) ≡ list_any (λ z. same z x) es
   any_kept y x apart [] = refl
   any_kept y x apart (z ∷ zs) = by_test (same y z) refl (any_kept y x apart zs)
     where

@@ -12,7 +12,7 @@ use Rattle.cil_model.specs.Mentions.{each_once, literal_of}
 use Rattle.name_tables.proofs.Lists.{map-take_more}
 use Rattle.cil_model.proofs.Lists.{list_any_congr, list_any-map}
 use Rattle.cil_model.proofs.SameLaws.{text_equivalence, same_text_itself}
-use Rattle.cil_model.proofs.LiteralLaws.{each_once_more}
+use Rattle.cil_model.proofs.LiteralLaws.{any_kept, each_once_more}
 use Rattle.name_tables.specs.declared.keys.TextKey.{TextKey}
 use Rattle.name_tables.specs.Keys.{text_of_key}
 
@@ -35,24 +35,13 @@ literal_met ks k xs e = by_test (list_any (λ q. same_text x (text_of_key q)) ks
 -- ---- each literal is among the distinct ones
 
 module _ {X : Type 0} (same : X → X → Bool) (laws : IsEquivalence same) where
-  abbrev apart_from : X → List X → List X
-  apart_from y es = filter (λ z. not (same y z)) es
-
-  any_kept : (y x : X) → same y x ≡ false → (es : List X) → list_any (λ z. same z x) (apart_from y es) ≡ list_any (λ z. same z x) es
-  any_kept y x apart [] = refl
-  any_kept y x apart (z ∷ zs) = by_test (same y z) refl (any_kept y x apart zs)
-    where
-      by_test : (b : Bool) → same y z ≡ b → list_any (λ w. same w x) (apart_from y zs) ≡ list_any (λ w. same w x) zs → list_any (λ w. same w x) (if not b then z ∷ apart_from y zs else apart_from y zs) ≡ (same z x || list_any (λ w. same w x) zs)
-      by_test false e later = ap (λ t. same z x || t) later
-      by_test true e later = later ∙ sym (ap (λ t. t || list_any (λ w. same w x) zs) (sym (laws.congr y z x e) ∙ apart))
-
   any_once : (x : X) (ys : List X) → list_any (λ z. same z x) (each_once same ys) ≡ list_any (λ z. same z x) ys
   any_once x [] = refl
   any_once x (y ∷ ys) = by_test (same y x) refl (any_once x ys)
     where
-      by_test : (b : Bool) → same y x ≡ b → list_any (λ z. same z x) (each_once same ys) ≡ list_any (λ z. same z x) ys → b || list_any (λ z. same z x) (apart_from y (each_once same ys)) ≡ b || list_any (λ z. same z x) ys
+      by_test : (b : Bool) → same y x ≡ b → list_any (λ z. same z x) (each_once same ys) ≡ list_any (λ z. same z x) ys → b || list_any (λ z. same z x) (filter (λ z. not (same y z)) (each_once same ys)) ≡ b || list_any (λ z. same z x) ys
       by_test true e later = refl
-      by_test false e later = any_kept y x e (each_once same ys) ∙ later
+      by_test false e later = any_kept same laws y x e (each_once same ys) ∙ later
 
 pub all_among_once : (xs : List (List ℕ)) → list_all (λ s. list_any (same_text s) (each_once same_text xs)) xs ≡ true
 all_among_once xs = among [] xs
