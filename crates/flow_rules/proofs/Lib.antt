@@ -9,4 +9,3 @@ pub mod MemberRules
 pub mod OperationLaws
 pub mod ChainNumbers
 pub mod KnownTypes
-pub mod ObjectLaws
