@@ -106,10 +106,6 @@ served workers worker own thread live serves same is so = ap (λ w. is_driven_by
 
 -- ---- several workers
 
--- none of them has done anything
-pub have_worked_none : (workers : ℕ) (ts us : List Count) → us ≡ ts → HaveWorked workers ts us
-have_worked_none workers ts us is = subst (λ (l : List Count). HaveWorked workers ts l) (sym is) (record { each = refl; worked = λ i d below. worked_nothing workers (get_or ts i d) })
-
 one_more : (workers : ℕ) (ts us : List Count) (t u : Count) → HaveWorked workers ts us → HasWorked workers t u → HaveWorked workers (ts ++ t ∷ []) (us ++ u ∷ [])
 one_more workers ts us t u before more = record {
   each = length_push us u ∙ ap (λ n. n + 1) before.each ∙ sym (length_push ts t);
