@@ -113,7 +113,7 @@ module _ (plan : PlanView) where
   paced_apart : (ws : List ℕ) (i x : ℕ) → i < m + m → WithinOneStage ws → WithinOneStage (set ws i x)
   paced_apart ws i x l within_one_stage j lj = subst (λ (z : ℕ × ℕ). IsPostedOrOneLess z.0 z.1) (λ c. (sym (get_or-set_other ws i (m + m + j) x 0 (λ e. omega arith)) c, sym (get_or-set_other ws i (m + m + n) x 0 (λ e. omega arith)) c)) (within_one_stage j lj)
 
-  -- over other words a writer knows the same, if the stage did not fall and its seat's is the same
+  -- a writer knows the same of other words, where the stage is no less and the word of its seat is the same
   writer_still : {before after : List ℕ} {j : ℕ} {q : WriterView} → taken after q.index ≡ taken before q.index → stage before ≤ stage after → IsWriterView before plan j q → IsWriterView after plan j q
   writer_still same up w = record {
     plan_is = w.plan_is;
@@ -127,7 +127,7 @@ module _ (plan : PlanView) where
     none_pending = w.none_pending;
   }
 
-  -- over other words the copier knows the same, if the stage is the same and no seat's fell
+  -- the copier knows the same of other words, where the stage is the same and the word of no seat is less
   copier_still : {before after : List ℕ} {positions j : ℕ} {p : CopierView} → stage after ≡ stage before → ((a : ℕ) → a < n → taken before a ≤ taken after a) → ((a : ℕ) → p.dealt ≤ a → a < n → taken after a ≡ taken before a)
       → IsCopierView before plan positions j p → IsCopierView after plan positions j p
   copier_still same grows undealt o = record {
@@ -145,7 +145,7 @@ module _ (plan : PlanView) where
     all_found = o.all_found;
   }
 
-  -- what the writer polled, loaded and wrote may be another
+  -- a writer with other polls, loads and stores knows the same of the words
   writer_goes : {ws : List ℕ} {j : ℕ} {q : WriterView} {polled polls loads loaded_word loaded : ℕ} {written : List ℕ} {wrote : List (ℕ × ℕ)} {pending : Option ℕ} → IsWriterView ws plan j q → q.taken_up ≤ polled → polled ≤ stage ws
       → length written ≡ m → ((k : ℕ) → k < m → IsAmong wrote k (get_or written k 0)) → (1 < q.taken_up → pending ≡ None)
       → IsWriterView ws plan j record q { polled = polled; polls = polls; loads = loads; loaded_word = loaded_word; loaded = loaded; written = written; wrote = wrote; pending = pending }
@@ -161,7 +161,7 @@ module _ (plan : PlanView) where
     none_pending = none;
   }
 
-  -- what the copier copies, checked and has copied may be another
+  -- the copier with other copies and checks knows the same of the words
   copier_goes : {ws : List ℕ} {positions j : ℕ} {p : CopierView} {copying : Option ℕ} {value checks checked_slot first_load second_load : ℕ} {stored : Bool} {copied : List Bool} → IsCopierView ws plan positions j p → length copied ≡ m
       → (0 < p.stage → AllMarked copied)
       → IsCopierView ws plan positions j record p { copying = copying; value = value; stored = stored; checks = checks; checked_slot = checked_slot; first_load = first_load; second_load = second_load; copied = copied }
