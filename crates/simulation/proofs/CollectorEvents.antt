@@ -1,4 +1,5 @@
 -- Events of the collector and acknowledgements keep a machine sound, and the state that it represents.
+pub mod EventCases
 pub mod Soundness
 pub mod RepresentedObjects
 pub mod UnchangedState

@@ -1,12 +1,10 @@
 -- Events of the collector keep what a machine represents, where its names are those of what is live.
 use Rattle.std.proofs.Common.{◌≡◌, ◌⊎◌, inl, inr, ℕ, ◌+◌, ◌-◌, Bool, true, false, List, [], Option, Some, None, slice_get, refl, sym, ap, ◌∙◌, subst}
-use Rattle.std.specs.Prelude.{◌&&◌, not, if◌then◌else◌}
 use Rattle.std.specs.Option.{option_map_or}
 use Rattle.std.proofs.lemmas.Option.{none-some}
 use Rattle.interpreter.specs.cil_model.declared.phases.Phase.{Phase}
-use Rattle.interpreter.specs.cil_model.declared.phases.Phase.TheVariants.{Idle, Mark, Allocate, Copy, PreFlip, HeapFlip, ThreadFlip, Reclaim}
+use Rattle.interpreter.specs.cil_model.declared.phases.Phase.TheVariants.{Mark, Allocate, Copy, HeapFlip, Reclaim}
 use Rattle.interpreter.specs.cil_model.declared.reports.Report.{Report}
-use Rattle.interpreter.specs.cil_model.declared.reports.Report.TheVariants.{Waiting, Worked}
 use Rattle.interpreter.specs.cil_model.declared.trees.Tree.{Tree}
 use Rattle.interpreter.specs.cil_model.Fields.{FieldKey}
 use Rattle.interpreter.specs.reference_machine.Values.{Born, ObjectName, Value as StateValue}
@@ -19,16 +17,16 @@ use Rattle.interpreter.specs.object_memory.Spaces.{Spaces, clear, first_of, foun
 use Rattle.interpreter.specs.instructions.barriers.Barriers.{forward_value}
 use Rattle.collector.specs.Phases.{is_live, is_read}
 use Rattle.collector.specs.Soundness.{IsSoundHeap}
-use Rattle.collector.specs.MarkSteps.{is_closed, next_mark_step, statics_scanned}
+use Rattle.collector.specs.MarkSteps.{statics_scanned}
 use Rattle.collector.specs.CopySteps.{next_copy_step, next_shell_step}
 use Rattle.collector.specs.Flips.{clear_step_at, next_clear_step, flip_step, next_flip_step, retire_old}
 use Rattle.collector.specs.Holds.{AnyLive}
 use Rattle.collector.specs.declared.progress.Progress.{Progress}
-use Rattle.collector.specs.phase_handshake.Handshakes.{all_answered, all_seen}
+use Rattle.collector.specs.phase_handshake.Handshakes.{Handshakes}
 use Rattle.simulation.specs.Agreement.{Agree}
 use Rattle.simulation.specs.MachineStates.{MachineState}
 use Rattle.simulation.specs.Sound.{IsSound}
-use Rattle.simulation.specs.CollectorSteps.{clear_object, collect, flip_values, mark_object, next_posted, initial_words, round_posted, rounds, work, do_work}
+use Rattle.simulation.specs.CollectorSteps.{collect, initial_words}
 use Rattle.simulation.specs.Refines.{AreTwins, IsCell, IsHeap, IsMonitor, IsOfContents, IsValue, Names, RefinesUnder}
 use Rattle.interpreter.proofs.object_memory.TwoSpaces.TwoBlocks.{either, new_is_cell, old_is_cell}
 use Rattle.collector.proofs.Addresses.Tests.{is_new_live, live_is_late, live_is_read, never, new_has_cell, none_is_new}
@@ -39,10 +37,10 @@ use Rattle.collector.proofs.Copies.AllocateWork.{looked_sound}
 use Rattle.collector.proofs.Copies.UnchangedReads.{copied_else, copied_live, copied_old, looked_else, looked_live, looked_new, looked_old}
 use Rattle.collector.proofs.Copies.CopyWork.{copied_sound}
 use Rattle.collector.proofs.PhaseChanges.ReclaimWork.{ShowsSame, cleared_shows, cleared_sound, cleared_stays, retired_cell, retired_sound}
-use Rattle.simulation.proofs.CollectorEvents.Soundness.{posting}
 use Rattle.simulation.proofs.Representation.NormalNames.{IsNormal, normal_value, other_cell}
 use Rattle.simulation.proofs.ListLaws.AgreeingLists.{agree_changed}
 use Rattle.simulation.proofs.Memory.NamedAddresses.{literal_beside}
+use Rattle.simulation.proofs.CollectorEvents.EventCases.{IsWork, allocated, allocates_copy, by_cases, cleared, clears_object, copied, copies_word, ends_cycle, flips_static, marked, marks_object, opens_cycle, posting, posts_round, scans_statics}
 
 -- ---- objects that show the same through each name
 
@@ -89,15 +87,6 @@ module _ (name : Names) (c : MachineState) (s : State) (refines : RefinesUnder n
     memory = record { heap = heap_shown c.tree name c.objects o s same refines.memory.heap; static_values = refines.memory.static_values; printed_is = refines.memory.printed_is };
     threads = refines.threads;
   }
-
-  -- and so does one of a further phase
-  pub refines_next : RefinesUnder name (next_posted c).0 s
-  refines_next = record { memory = refines.memory; threads = refines.threads }
-
--- after one of two transitions, by a test
-either_refines : (name : Names) (s : State) (b : Bool) (x y : MachineState × Report) → (b ≡ true → RefinesUnder name x.0 s) → (b ≡ false → RefinesUnder name y.0 s) → RefinesUnder name (if◌then◌else◌ {A = MachineState × Report} b x y).0 s
-either_refines name s true x y f g = f refl
-either_refines name s false x y f g = g refl
 
 -- ---- twins
 
@@ -256,91 +245,37 @@ retired_shows name o has_round tree words p sound normal over = record {
 
 -- ---- each phase
 
--- a step was done, or none was left
-worked_refines : (name : Names) (s : State) (c : MachineState) (x : Progress × Objects × Bool) → RefinesUnder name (record c { progress = x.0; objects = x.1 }) s → RefinesUnder name (next_posted c).0 s → RefinesUnder name (do_work c x).0 s
-worked_refines name s c (p, o, true) works posts = works
-worked_refines name s c (p, o, false) works posts = posts
-
 module _ (name : Names) (c : MachineState) (s : State) where
-  -- a cycle opens
-  opens_refine : IsSound (posting Idle c) → RefinesUnder name c s → RefinesUnder name (work Idle (posting Idle c)).0 s
-  opens_refine sound refines = let opens = refines_shown name c s refines _ (opened_shows name c.objects (initial_words c) (sound.heap.blocks.none_new refl)) in record { memory = opens.memory; threads = opens.threads }
-
   -- objects are marked
   dark_refines : IsSound (posting Mark c) → (o : Objects) → o.literals ≡ c.objects.literals → AreDarker c.objects.spaces o.spaces → RefinesUnder name c s → RefinesUnder name (record c { objects = o }) s
   dark_refines sound o literals darker refines = refines_shown name c s refines o (darker_shows name c.objects o c.posts.has_round c.tree c.limits.max_words c.progress sound.heap literals darker)
 
-  -- a round is posted, or marking ends
-  rounds_refine : IsSound (posting Mark c) → RefinesUnder name c s → RefinesUnder name (rounds (posting Mark c)).0 s
-  rounds_refine sound refines = either_refines name s (is_closed c.progress c.objects (posting Mark c).posts) (next_posted (posting Mark c))
-      (if c.posts.has_round && not (all_answered (posting Mark c).posts) then (posting Mark c, Waiting) else (round_posted (posting Mark c), Worked))
-      (λ closed. refines_next name (posting Mark c) s here)
-      (λ more. either_refines name s (c.posts.has_round && not (all_answered (posting Mark c).posts)) (posting Mark c, Waiting) (round_posted (posting Mark c), Worked)
-      (λ waits. here)
-      (λ answered. (let unmarked = dark_refines sound (record c.objects { spaces = record c.objects.spaces { has_marked = false } }) refl (AreDarker-same c.objects.spaces (record c.objects.spaces { has_marked = false }) refl refl refl) refines in
-      record { memory = unmarked.memory; threads = unmarked.threads })))
-    where
-      here : RefinesUnder name (posting Mark c) s
-      here = record { memory = refines.memory; threads = refines.threads }
+  -- what is represented doesn't depend on the posts and the progress
+  beside : (d : MachineState) → RefinesUnder name d s → (h : Handshakes) (p : Progress) → RefinesUnder name (record d { posts = h; progress = p }) s
+  beside d refines h p = record { memory = refines.memory; threads = refines.threads }
 
-  -- a step of Mark
-  by_mark : (x : Progress × Objects × Bool) → RefinesUnder name (record c { objects = x.1 }) s → RefinesUnder name (rounds (posting Mark c)).0 s → RefinesUnder name (mark_object (posting Mark c) x).0 s
-  by_mark (p, o, true) works ends = record { memory = works.memory; threads = works.threads }
-  by_mark (p, o, false) works ends = ends
-
-  marks_refine : IsSound (posting Mark c) → RefinesUnder name c s → RefinesUnder name (work Mark (posting Mark c)).0 s
-  marks_refine sound refines = either_refines name s c.progress.scanned_statics (mark_object (posting Mark c) (next_mark_step c.tree c.progress c.objects))
-      (record (posting Mark c) { progress = (statics_scanned c.progress c.objects c.statics).0; objects = (statics_scanned c.progress c.objects c.statics).1 }, Worked)
-      (λ scanned. by_mark (next_mark_step c.tree c.progress c.objects)
-      (dark_refines sound (next_mark_step c.tree c.progress c.objects).1 (next_mark_step-literals c.tree c.progress c.objects) (AreDarker-next_mark_step c.tree c.posts.has_round c.limits.max_words c.progress c.objects sound.heap) refines)
-      (rounds_refine sound refines))
-      (λ early. (let scans = dark_refines sound (statics_scanned c.progress c.objects c.statics).1 (with_all_marked-literals c.statics c.objects) (AreDarker-with_all_marked c.statics c.objects sound.heap.blocks.spaces) refines in
-      record { memory = scans.memory; threads = scans.threads }))
-
-  -- a step with other objects, or the next phase
-  steps_refine : (x : Phase) (step : Progress × Objects × Bool) → ShowsNames name c.objects step.1 → RefinesUnder name c s → RefinesUnder name (do_work (posting x c) step).0 s
-  steps_refine x step same refines =
-      let works = refines_shown name c s refines step.1 same in
-      worked_refines name s (posting x c) step (record { memory = works.memory; threads = works.threads }) (refines_next name (posting x c) s (record { memory = refines.memory; threads = refines.threads }))
-
-  -- static fields are flipped
-  by_flip : (x : Progress × List Value × Bool) → RefinesUnder name (record c { statics = x.1 }) s → RefinesUnder name c s → RefinesUnder name (flip_values (posting HeapFlip c) x).0 s
-  by_flip (p, statics, true) works refines = record { memory = works.memory; threads = works.threads }
-  by_flip (p, statics, false) works refines = refines_next name (posting HeapFlip c) s (record { memory = refines.memory; threads = refines.threads })
-
-  flips_refine : IsSound (posting HeapFlip c) → IsNormal HeapFlip c.objects.spaces name → RefinesUnder name c s → RefinesUnder name (work HeapFlip (posting HeapFlip c)).0 s
-  flips_refine sound normal refines = by_flip (next_flip_step c.progress c.objects c.statics)
-      (record {
-        memory = record {
-          heap = refines.memory.heap;
-          static_values = flipped_agree name c.objects c.posts.has_round c.tree c.limits.max_words c.progress sound.heap normal c.statics s.statics refines.memory.static_values;
-          printed_is = refines.memory.printed_is;
-        };
-        threads = refines.threads;
-      })
-      refines
-
-  -- new objects are cleared, and the cycle ends
-  by_clear : (x : Progress × Objects × Bool) → RefinesUnder name (record c { objects = x.1 }) s → (x.2 ≡ false → RefinesUnder name (record c { objects = retire_old c.objects }) s) → RefinesUnder name (clear_object (posting Reclaim c) x).0 s
-  by_clear (p, o, true) works ends = record { memory = works.memory; threads = works.threads }
-  by_clear (p, o, false) works ends = let over = ends refl in record { memory = over.memory; threads = over.threads }
-
-  clears_refine : IsSound (posting Reclaim c) → IsNormal Reclaim c.objects.spaces name → RefinesUnder name c s → RefinesUnder name (work Reclaim (posting Reclaim c)).0 s
-  clears_refine sound normal refines = by_clear (next_clear_step c.progress c.objects)
-      (refines_shown name c s refines (next_clear_step c.progress c.objects).1 (cleared_shows_names name c.objects c.posts.has_round c.tree c.limits.max_words c.progress sound.heap normal))
-      (λ over. refines_shown name c s refines (retire_old c.objects) (retired_shows name c.objects c.posts.has_round c.tree c.limits.max_words c.progress sound.heap normal over))
-
-  -- in each phase
-  work_refines : (x : Phase) → IsSound (posting x c) → IsNormal x c.objects.spaces name → RefinesUnder name c s → RefinesUnder name (work x (posting x c)).0 s
-  work_refines Idle sound normal refines = opens_refine sound refines
-  work_refines Mark sound normal refines = marks_refine sound refines
-  work_refines Allocate sound normal refines = steps_refine Allocate (next_shell_step c.progress c.objects) (looked_shows name c.objects c.posts.has_round c.tree c.limits.max_words c.progress sound.heap normal) refines
-  work_refines Copy sound normal refines = steps_refine Copy (next_copy_step c.tree c.progress c.objects) (copied_shows name c.objects c.posts.has_round c.tree c.limits.max_words c.progress sound.heap normal) refines
-  work_refines PreFlip sound normal refines = refines_next name (posting PreFlip c) s (record { memory = refines.memory; threads = refines.threads })
-  work_refines HeapFlip sound normal refines = flips_refine sound normal refines
-  work_refines ThreadFlip sound normal refines = refines_next name (posting ThreadFlip c) s (record { memory = refines.memory; threads = refines.threads })
-  work_refines Reclaim sound normal refines = clears_refine sound normal refines
+  work_refines : (x : Phase) (after : MachineState × Report) → IsWork c x after → IsSound (posting x c) → IsNormal x c.objects.spaces name → RefinesUnder name c s → RefinesUnder name after.0 s
+  work_refines _ _ opens_cycle sound normal refines = beside _ (refines_shown name c s refines _ (opened_shows name c.objects (initial_words c) (sound.heap.blocks.none_new refl))) _ _
+  work_refines _ _ (scans_statics early) sound normal refines =
+      beside _ (dark_refines sound (statics_scanned c.progress c.objects c.statics).1 (with_all_marked-literals c.statics c.objects) (AreDarker-with_all_marked c.statics c.objects sound.heap.blocks.spaces) refines) _ _
+  work_refines _ _ (marks_object scanned step) sound normal refines =
+      beside _ (dark_refines sound (marked c).1 (next_mark_step-literals c.tree c.progress c.objects) (AreDarker-next_mark_step c.tree c.posts.has_round c.limits.max_words c.progress c.objects sound.heap) refines) _ _
+  work_refines _ _ (posts_round scanned over more answered) sound normal refines =
+      beside _ (dark_refines sound (record c.objects { spaces = record c.objects.spaces { has_marked = false } }) refl (AreDarker-same c.objects.spaces (record c.objects.spaces { has_marked = false }) refl refl refl) refines) _ _
+  work_refines _ _ (allocates_copy step) sound normal refines = beside _ (refines_shown name c s refines (allocated c).1 (looked_shows name c.objects c.posts.has_round c.tree c.limits.max_words c.progress sound.heap normal)) _ _
+  work_refines _ _ (copies_word step) sound normal refines = beside _ (refines_shown name c s refines (copied c).1 (copied_shows name c.objects c.posts.has_round c.tree c.limits.max_words c.progress sound.heap normal)) _ _
+  work_refines _ _ (flips_static step) sound normal refines = record {
+    memory = record {
+      heap = refines.memory.heap;
+      static_values = flipped_agree name c.objects c.posts.has_round c.tree c.limits.max_words c.progress sound.heap normal c.statics s.statics refines.memory.static_values;
+      printed_is = refines.memory.printed_is;
+    };
+    threads = refines.threads;
+  }
+  work_refines _ _ (clears_object step) sound normal refines = beside _ (refines_shown name c s refines (cleared c).1 (cleared_shows_names name c.objects c.posts.has_round c.tree c.limits.max_words c.progress sound.heap normal)) _ _
+  work_refines _ _ (ends_cycle over) sound normal refines = beside _ (refines_shown name c s refines (retire_old c.objects) (retired_shows name c.objects c.posts.has_round c.tree c.limits.max_words c.progress sound.heap normal over)) _ _
+  work_refines _ _ _ sound normal refines = record { memory = refines.memory; threads = refines.threads }
 
   -- after an event of the collector a machine represents the same state, under the same names
   pub collected_refines : IsSound c → IsNormal c.posts.posted_phase c.objects.spaces name → RefinesUnder name c s → RefinesUnder name (collect c).0 s
-  collected_refines sound normal refines = either_refines name s (all_seen c.posts) (work c.posts.posted_phase c) (c, Waiting) (λ seen. work_refines c.posts.posted_phase sound normal refines) (λ late. refines)
+  collected_refines sound normal refines = by_cases c (λ x. RefinesUnder name x.0 s) (λ seen after is. work_refines c.posts.posted_phase after is sound normal refines) (λ late. refines)

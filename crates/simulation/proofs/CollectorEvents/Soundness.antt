@@ -1,12 +1,11 @@
 -- Events of the collector keep a machine sound, in each phase that is posted.
 use Rattle.std.proofs.Common.{◌≤◌, ◌≡◌, ◌≢◌, ℕ, Bool, true, false, List, [], ◌∷◌, map, Option, Some, None, is_some, option_map, slice_get, refl, sym, ap, ◌∙◌, subst}
-use Rattle.std.specs.Prelude.{◌&&◌, not, if◌then◌else◌, option_and_then}
+use Rattle.std.specs.Prelude.{◌&&◌, not, option_and_then}
 use Rattle.std.proofs.lemmas.Option.{same_Some, slice_get-map}
 use Rattle.interpreter.specs.cil_model.declared.trees.Tree.{Tree}
 use Rattle.interpreter.specs.cil_model.declared.phases.Phase.{Phase}
 use Rattle.interpreter.specs.cil_model.declared.phases.Phase.TheVariants.{Idle, Mark, Allocate, Copy, PreFlip, HeapFlip, ThreadFlip, Reclaim}
 use Rattle.interpreter.specs.cil_model.declared.reports.Report.{Report}
-use Rattle.interpreter.specs.cil_model.declared.reports.Report.TheVariants.{Waiting, Worked}
 use Rattle.interpreter.specs.reference_machine.Cycles.{phase_after}
 use Rattle.interpreter.specs.object_memory.declared.addresses.Addr.{Addr}
 use Rattle.interpreter.specs.object_memory.declared.values.Value.{Value}
@@ -21,12 +20,12 @@ use Rattle.collector.specs.CopySteps.{next_copy_step, next_shell_step}
 use Rattle.collector.specs.Flips.{next_clear_step, next_flip_step, retire_old}
 use Rattle.collector.specs.Holds.{hold_of, is_flipping, is_marking, may_hold, static_may_hold}
 use Rattle.collector.specs.declared.progress.Progress.{Progress}
-use Rattle.collector.specs.phase_handshake.Handshakes.{Handshakes, all_answered, all_seen, has_seen, posted_round, seat_of, clear_answer}
+use Rattle.collector.specs.phase_handshake.Handshakes.{Handshakes, all_seen, has_seen, posted_round, seat_of, clear_answer}
 use Rattle.collector.specs.phase_handshake.declared.posts.Seat.{Seat}
 use Rattle.simulation.specs.MachineStates.{MachineState}
 use Rattle.simulation.specs.Sound.{IsSound}
 use Rattle.simulation.proofs.CollectorEvents.NextBlockSize.{next_grows, next_within}
-use Rattle.simulation.specs.CollectorSteps.{clear_object, collect, cycle_ended, cycle_opened, flip_values, mark_object, next_posted, initial_words, round_posted, rounds, work, do_work}
+use Rattle.simulation.specs.CollectorSteps.{collect, cycle_ended, cycle_opened, next_posted, initial_words, round_posted, rounds, work}
 use Rattle.interpreter.proofs.cil_model.Lists.{none_is_some}
 use Rattle.collector.proofs.phase_handshake.Closeness.{cycle_close, passes_at, phase_close, round_close, same_phase, seat_here, seat_there}
 use Rattle.collector.proofs.Addresses.Tests.{marked_cell, may_hold_live, never, new_cell, old_cell, value_weakens}
@@ -43,10 +42,7 @@ use Rattle.collector.proofs.Copies.CopyWork.{copied_sound, pre_flip_live, pre_fl
 use Rattle.collector.proofs.PhaseChanges.FlipPhases.{flip_posted}
 use Rattle.collector.proofs.PhaseChanges.ReclaimWork.{cleared_sound, cleared_tests, retired_sound}
 use Rattle.collector.proofs.ThreadReferences.FlipPhases.{end_keeps_held, flip_keeps_held}
-
--- what a machine holds where a phase is posted
-abbrev pub posting : Phase → MachineState → MachineState
-posting x c = record c { posts = record c.posts { posted_phase = x } }
+use Rattle.simulation.proofs.CollectorEvents.EventCases.{IsWork, allocates_copy, by_cases, clears_object, copies_word, ends_allocation, ends_copying, ends_cycle, ends_heap_flip, ends_marking, flips_static, marks_object, opens_cycle, posting, posts_heap_flip, posts_reclaim, posts_round, scans_statics, waits_for_round}
 
 -- ---- seats
 
@@ -79,11 +75,6 @@ module _ (h k : Handshakes) (asked : k.seats ≡ map clear_answer h.seats) (t : 
       by_index (Some (Some seat)) = refl
 
 -- ---- what is to be shown of a step
-
--- one of two transitions, by a test
-either_soundly : (b : Bool) (x y : MachineState × Report) → (b ≡ true → IsSound x.0) → (b ≡ false → IsSound y.0) → IsSound (if◌then◌else◌ {A = MachineState × Report} b x y).0
-either_soundly true x y f g = f refl
-either_soundly false x y f g = g refl
 
 -- the next phase is posted, with these objects
 abbrev after_post : MachineState → Objects → MachineState
@@ -121,11 +112,6 @@ module _ (c : MachineState) (sound : IsSound c) (seen : all_seen c.posts ≡ tru
     threads = λ t left fs seat at there a listed. held t seat a there (sound.threads t left fs seat at there a listed);
     statics = pass;
   }
-
--- a step was done, or none was left
-worked_soundly : (c : MachineState) (x : Progress × Objects × Bool) → IsSound (record c { progress = x.0; objects = x.1 }) → (x.2 ≡ false → IsSound (next_posted c).0) → IsSound (do_work c x).0
-worked_soundly c (p, o, true) works posts = works
-worked_soundly c (p, o, false) works posts = posts refl
 
 -- until a thread flips its frames it may hold what is live
 live_held : (h : Handshakes) (m : Spaces) (seat : Seat) (a : Addr) → is_flipping h.posted_phase ≡ false → is_marking h.posted_phase ≡ false → is_live h.posted_phase m a ≡ true → may_hold h m seat a ≡ true
@@ -171,6 +157,11 @@ module _ (c : MachineState) (sound : IsSound (posting Idle c)) (seen : all_seen 
 
 -- ---- Mark
 
+-- a list without a first address has none
+none_grey : (list : List Addr) → not (is_none_grey list) ≡ false → list ≡ []
+none_grey [] e = refl
+none_grey (a ∷ rest) e = never (sym e)
+
 module _ (c : MachineState) (sound : IsSound (posting Mark c)) (seen : all_seen (posting Mark c).posts ≡ true) where
   -- what it holds
   abbrev marking : MachineState
@@ -208,13 +199,13 @@ module _ (c : MachineState) (sound : IsSound (posting Mark c)) (seen : all_seen 
   before_round t seat there = was_seat marking.posts (round_posted marking).posts refl t seat there
 
   -- a round is posted
-  pub round_soundly : c.objects.spaces.grey ≡ [] → c.progress.scanned_statics ≡ true → IsSound (round_posted marking)
-  round_soundly none scanned = record {
+  pub round_soundly : after_mark.2 ≡ false → c.progress.scanned_statics ≡ true → IsSound (round_posted marking)
+  round_soundly over scanned = record {
     seated = record {
       close = round_close marking.posts sound.seated.close;
       live = λ t. sound.seated.live t ∙ same_seats marking.posts (round_posted marking).posts refl t;
     };
-    heap = IsSoundHeap-round c.tree c.posts.has_round c.limits.max_words c.progress c.objects.spaces sound.heap none;
+    heap = IsSoundHeap-round c.tree c.posts.has_round c.limits.max_words c.progress c.objects.spaces sound.heap (none_grey c.objects.spaces.grey (sym (next_mark_step-works c.tree c.posts.has_round c.limits.max_words c.progress c.objects sound.heap) ∙ over));
     rounds = λ mark round. scanned;
     on_time = λ t seat there late.
         (let was = before_round t seat there in
@@ -236,31 +227,6 @@ module _ (c : MachineState) (sound : IsSound (posting Mark c)) (seen : all_seen 
       (λ t seat a there held. allocate_held (record marking.posts { posted_phase = Allocate }) c.objects.spaces seat refl a (closed_held c.progress c.objects marking.posts closed t seat there refl a held))
       (λ number v there. value_weakens (static_may_hold Mark c.objects.spaces c.progress number) (static_may_hold Allocate c.objects.spaces no_progress number)
       (λ a held. allocate_held-static c.objects.spaces no_progress number a (closed_held-static c.progress c.objects marking.posts closed number a held)) v (sound.statics number v there))
-
-  -- where nothing is grey
-  pub rounds_soundly : c.objects.spaces.grey ≡ [] → c.progress.scanned_statics ≡ true → IsSound (rounds marking).0
-  rounds_soundly none scanned = either_soundly (is_closed c.progress c.objects marking.posts) (next_posted marking)
-      (if c.posts.has_round && not (all_answered marking.posts) then (marking, Waiting) else (round_posted marking, Worked))
-      closes_soundly
-      (λ more. either_soundly (c.posts.has_round && not (all_answered marking.posts)) (marking, Waiting) (round_posted marking, Worked) (λ waits. sound) (λ answered. round_soundly none scanned))
-
-  -- a list without a first address has none
-  none_grey : (list : List Addr) → not (is_none_grey list) ≡ false → list ≡ []
-  none_grey [] e = refl
-  none_grey (a ∷ rest) e = never (sym e)
-
-  -- a step was done, or nothing was grey
-  marked_soundly : (x : Progress × Objects × Bool) → IsSound (record marking { progress = x.0; objects = x.1 }) → (x.2 ≡ false → IsSound (rounds marking).0) → IsSound (mark_object marking x).0
-  marked_soundly (p, o, true) works ends = works
-  marked_soundly (p, o, false) works ends = ends refl
-
-  -- the static fields are scanned first
-  pub mark_work_soundly : IsSound (work Mark marking).0
-  mark_work_soundly = either_soundly c.progress.scanned_statics (mark_object marking after_mark)
-      (record marking { progress = (statics_scanned c.progress c.objects c.statics).0; objects = (statics_scanned c.progress c.objects c.statics).1 }, Worked)
-      (λ scanned. marked_soundly after_mark marks_soundly (λ over.
-      rounds_soundly (none_grey c.objects.spaces.grey (sym (next_mark_step-works c.tree c.posts.has_round c.limits.max_words c.progress c.objects sound.heap) ∙ over)) scanned))
-      (λ early. scans_soundly)
 
 -- ---- Allocate
 
@@ -293,10 +259,6 @@ module _ (c : MachineState) (sound : IsSound (posting Allocate c)) (seen : all_s
       (copy_posted c.tree c.posts.has_round c.limits.max_words c.progress c.objects sound.heap over)
       (λ t seat a there held. live_held (record c.posts { posted_phase = Copy }) c.objects.spaces seat a refl refl (may_hold_live (posting Allocate c).posts c.objects.spaces seat a held))
       sound.statics
-
-  -- one of both
-  pub allocate_work_soundly : IsSound (work Allocate (posting Allocate c)).0
-  allocate_work_soundly = worked_soundly (posting Allocate c) after_look looks_soundly copies_soundly
 
 -- ---- Copy
 
@@ -333,10 +295,6 @@ module _ (c : MachineState) (sound : IsSound (posting Copy c)) (seen : all_seen 
       (pre_flip_posted c.tree c.posts.has_round c.limits.max_words c.progress c.objects sound.heap over)
       (λ t seat a there held. live_held (record c.posts { posted_phase = PreFlip }) c.objects.spaces seat a refl refl (live a (may_hold_live (posting Copy c).posts c.objects.spaces seat a held)))
       (λ number v there. value_weakens (is_live Copy c.objects.spaces) (is_live PreFlip c.objects.spaces) live v (sound.statics number v there))
-
-  -- one of both
-  pub copy_work_soundly : IsSound (work Copy (posting Copy c)).0
-  copy_work_soundly = worked_soundly (posting Copy c) after_copy fills_soundly filled_soundly
 
 -- ---- PreFlip, HeapFlip and ThreadFlip
 
@@ -375,14 +333,6 @@ module _ (c : MachineState) (sound : IsSound (posting HeapFlip c)) (seen : all_s
       (λ t seat a there held. flip_keeps_held (posting HeapFlip c).posts seat (seen_phase (posting HeapFlip c).posts seen t seat there) c.objects.spaces a refl held)
       (all_flipped c.tree c.posts.has_round c.limits.max_words c.progress c.objects sound.heap c.statics sound.statics over no_progress)
 
-  -- one of both
-  by_step : (x : Progress × List Value × Bool) → IsSound (record (posting HeapFlip c) { progress = x.0; statics = x.1 }) → (x.2 ≡ false → IsSound (next_posted (posting HeapFlip c)).0) → IsSound (flip_values (posting HeapFlip c) x).0
-  by_step (p, statics, true) works posts = works
-  by_step (p, statics, false) works posts = posts refl
-
-  pub heap_flip_work_soundly : IsSound (work HeapFlip (posting HeapFlip c)).0
-  heap_flip_work_soundly = by_step after_flip flips_soundly flipped_soundly
-
 -- ---- Reclaim
 
 module _ (c : MachineState) (sound : IsSound (posting Reclaim c)) (seen : all_seen (posting Reclaim c).posts ≡ true) where
@@ -407,27 +357,27 @@ module _ (c : MachineState) (sound : IsSound (posting Reclaim c)) (seen : all_se
       (λ t seat a there held. end_keeps_held (posting Reclaim c).posts seat (seen_phase (posting Reclaim c).posts seen t seat there) c.objects.spaces a refl held)
       (statics_to_idle c.objects.spaces c.progress no_progress c.statics sound.statics)
 
-  -- one of both
-  by_clear : (x : Progress × Objects × Bool) → IsSound (record (posting Reclaim c) { progress = x.0; objects = x.1 }) → (x.2 ≡ false → IsSound (cycle_ended (posting Reclaim c))) → IsSound (clear_object (posting Reclaim c) x).0
-  by_clear (p, o, true) works ends = works
-  by_clear (p, o, false) works ends = ends refl
-
-  pub reclaim_work_soundly : IsSound (work Reclaim (posting Reclaim c)).0
-  reclaim_work_soundly = by_clear after_clear clears_soundly ends_soundly
-
 -- ---- each phase
 
 -- the work of a phase keeps a machine sound
-work_soundly : (x : Phase) (c : MachineState) → IsSound (posting x c) → all_seen (posting x c).posts ≡ true → IsSound (work x (posting x c)).0
-work_soundly Idle c sound seen = opens_soundly c sound seen
-work_soundly Mark c sound seen = mark_work_soundly c sound seen
-work_soundly Allocate c sound seen = allocate_work_soundly c sound seen
-work_soundly Copy c sound seen = copy_work_soundly c sound seen
-work_soundly PreFlip c sound seen = pre_flip_work_soundly c sound seen
-work_soundly HeapFlip c sound seen = heap_flip_work_soundly c sound seen
-work_soundly ThreadFlip c sound seen = thread_flip_work_soundly c sound seen
-work_soundly Reclaim c sound seen = reclaim_work_soundly c sound seen
+work_soundly : (c : MachineState) (x : Phase) (after : MachineState × Report) → IsWork c x after → IsSound (posting x c) → all_seen (posting x c).posts ≡ true → IsSound after.0
+work_soundly c _ _ opens_cycle sound seen = opens_soundly c sound seen
+work_soundly c _ _ (scans_statics early) sound seen = scans_soundly c sound seen
+work_soundly c _ _ (marks_object scanned step) sound seen = marks_soundly c sound seen
+work_soundly c _ _ (ends_marking scanned over closed) sound seen = closes_soundly c sound seen closed
+work_soundly c _ _ (waits_for_round late) sound seen = sound
+work_soundly c _ _ (posts_round scanned over more answered) sound seen = round_soundly c sound seen over scanned
+work_soundly c _ _ (allocates_copy step) sound seen = looks_soundly c sound seen
+work_soundly c _ _ (ends_allocation over) sound seen = copies_soundly c sound seen over
+work_soundly c _ _ (copies_word step) sound seen = fills_soundly c sound seen
+work_soundly c _ _ (ends_copying over) sound seen = filled_soundly c sound seen over
+work_soundly c _ _ posts_heap_flip sound seen = pre_flip_work_soundly c sound seen
+work_soundly c _ _ (flips_static step) sound seen = flips_soundly c sound seen
+work_soundly c _ _ (ends_heap_flip over) sound seen = flipped_soundly c sound seen over
+work_soundly c _ _ posts_reclaim sound seen = thread_flip_work_soundly c sound seen
+work_soundly c _ _ (clears_object step) sound seen = clears_soundly c sound seen
+work_soundly c _ _ (ends_cycle over) sound seen = ends_soundly c sound seen over
 
 -- an event of the collector keeps a machine sound
 pub collected_soundly : (c : MachineState) → IsSound c → IsSound (collect c).0
-collected_soundly c sound = either_soundly (all_seen c.posts) (work c.posts.posted_phase c) (c, Waiting) (work_soundly c.posts.posted_phase c sound) (λ late. sound)
+collected_soundly c sound = by_cases c (λ x. IsSound x.0) (λ seen after is. work_soundly c c.posts.posted_phase after is sound seen) (λ late. sound)

@@ -1,25 +1,21 @@
 -- When the collector waits and when a cycle opens, and what an acknowledgement leaves open to its thread.
-use Rattle.std.proofs.Common.{◌≡◌, ◌≢◌, ◌↔◌, inl, inr, ℕ, Bool, true, false, not, ◌&&◌, ◌||◌, if◌then◌else◌, List, Option, Some, None, slice_set, refl, sym, ap, ◌∙◌, subst}
+use Rattle.std.proofs.Common.{◌≡◌, ◌≢◌, ◌↔◌, inl, inr, ℕ, Bool, true, false, not, ◌&&◌, ◌||◌, if◌then◌else◌, Option, Some, None, slice_set, refl, sym, ap, ◌∙◌, subst}
 use Rattle.std.specs.Prelude.{is_some}
 use Rattle.std.specs.Option.{option_map_or}
-use Rattle.std.proofs.lemmas.Bool.{eq-eqb}
+use Rattle.std.proofs.lemmas.Bool.{and_parts, not-true, eq-eqb}
 use Rattle.interpreter.specs.cil_model.declared.phases.Phase.{Phase}
-use Rattle.interpreter.specs.cil_model.declared.phases.Phase.TheVariants.{Idle, Mark, Allocate, Copy, HeapFlip, Reclaim}
+use Rattle.interpreter.specs.cil_model.declared.phases.Phase.TheVariants.{Idle, Mark}
 use Rattle.interpreter.specs.cil_model.declared.reports.Report.{Report}
 use Rattle.interpreter.specs.cil_model.declared.reports.Report.TheVariants.{Absent, Acked, NothingPosted, Waiting, Worked}
-use Rattle.interpreter.specs.object_memory.declared.values.Value.{Value}
-use Rattle.interpreter.specs.object_memory.Objects.{Objects}
 use Rattle.interpreter.specs.threads_monitors.Threads.{is_live_at}
-use Rattle.collector.specs.CopySteps.{next_copy_step, next_shell_step}
-use Rattle.collector.specs.Flips.{next_clear_step, next_flip_step}
-use Rattle.collector.specs.MarkSteps.{is_closed, next_mark_step, statics_scanned}
-use Rattle.collector.specs.declared.progress.Progress.{Progress}
 use Rattle.collector.specs.phase_handshake.Handshakes.{Handshakes, IsWaiting, acknowledge_phase, all_answered, all_seen, is_open, is_open_to, is_phase, own_phase, phase_number, seat_after, seat_of}
 use Rattle.collector.specs.phase_handshake.declared.posts.Seat.{Seat}
 use Rattle.collector.proofs.phase_handshake.Closeness.{same_phase}
-use Rattle.simulation.specs.CollectorSteps.{acknowledgement, clear_object, collect, flip_values, mark_object, next_posted, round_posted, rounds, work, do_work}
+use Rattle.simulation.specs.CollectorSteps.{acknowledgement, collect, work}
 use Rattle.simulation.specs.MachineStates.{MachineState}
 use Rattle.simulation.proofs.Threads.Seats.{own_seat}
+use Rattle.simulation.proofs.CollectorEvents.EventCases.{IsWork, by_cases, posting, waits_for_round}
+use Rattle.std.proofs.Math.Bool.{and-false}
 
 -- ---- what the collector waits for
 
@@ -27,57 +23,14 @@ use Rattle.simulation.proofs.Threads.Seats.{own_seat}
 abbrev WaitsRightly : MachineState → MachineState × Report → Type 0
 WaitsRightly c x = x.1 ≡ Waiting → IsWaiting c.posts × (x.0 ≡ c)
 
-either_waits : (c : MachineState) (b : Bool) (x y : MachineState × Report) → (b ≡ true → WaitsRightly c x) → (b ≡ false → WaitsRightly c y) → WaitsRightly c (if◌then◌else◌ {A = MachineState × Report} b x y)
-either_waits c true x y f g = f refl
-either_waits c false x y f g = g refl
-
-both_hold : (x y : Bool) → (x && not y) ≡ true → (x ≡ true) × (y ≡ false)
-both_hold true false e = (refl, refl)
-both_hold _ _ e = absurd cc
-
 module _ (c : MachineState) where
-  -- a transition that works doesn't wait
-  works_on : (d : MachineState) → WaitsRightly c (d, Worked)
-  works_on d e = absurd cc
-
-  rounds_wait : WaitsRightly c (rounds c)
-  rounds_wait =
-      either_waits c (is_closed c.progress c.objects c.posts) (next_posted c) (if◌then◌else◌ {A = MachineState × Report} (c.posts.has_round && not (all_answered c.posts)) (c, Waiting) (round_posted c, Worked))
-      (λ closed. works_on (next_posted c).0)
-      (λ more. either_waits c (c.posts.has_round && not (all_answered c.posts)) (c, Waiting) (round_posted c, Worked) (λ late e. (inr (both_hold c.posts.has_round (all_answered c.posts) late), refl)) (λ answered. works_on (round_posted c)))
-
-  worked_waits : (x : Progress × Objects × Bool) → WaitsRightly c (do_work c x)
-  worked_waits (p, o, true) = works_on (record c { progress = p; objects = o })
-  worked_waits (p, o, false) = works_on (next_posted c).0
-
-  flipped_waits : (x : Progress × List Value × Bool) → WaitsRightly c (flip_values c x)
-  flipped_waits (p, statics, true) = works_on (record c { progress = p; statics = statics })
-  flipped_waits (p, statics, false) = works_on (next_posted c).0
-
-  cleared_waits : (x : Progress × Objects × Bool) → WaitsRightly c (clear_object c x)
-  cleared_waits (p, o, true) = works_on (record c { progress = p; objects = o })
-  cleared_waits (p, o, false) = λ e. absurd cc
-
-  marked_waits : (x : Progress × Objects × Bool) → WaitsRightly c (mark_object c x)
-  marked_waits (p, o, true) = works_on (record c { progress = p; objects = o })
-  marked_waits (p, o, false) = rounds_wait
-
-  work_waits : (x : Phase) → WaitsRightly c (work x c)
-  work_waits Idle = works_on (work Idle c).0
-  work_waits Mark =
-      either_waits c c.progress.scanned_statics (mark_object c (next_mark_step c.tree c.progress c.objects))
-      (record c { progress = (statics_scanned c.progress c.objects c.statics).0; objects = (statics_scanned c.progress c.objects c.statics).1 }, Worked)
-      (λ scanned. marked_waits (next_mark_step c.tree c.progress c.objects))
-      (λ early. works_on (record c { progress = (statics_scanned c.progress c.objects c.statics).0; objects = (statics_scanned c.progress c.objects c.statics).1 }))
-  work_waits Allocate = worked_waits (next_shell_step c.progress c.objects)
-  work_waits Copy = worked_waits (next_copy_step c.tree c.progress c.objects)
-  work_waits HeapFlip = flipped_waits (next_flip_step c.progress c.objects c.statics)
-  work_waits Reclaim = cleared_waits (next_clear_step c.progress c.objects)
-  work_waits _ = works_on (next_posted c).0
+  work_waits : (x : Phase) (after : MachineState × Report) → IsWork c x after → WaitsRightly (posting x c) after
+  work_waits _ _ (waits_for_round late) e = (inr (let h = and_parts c.posts.has_round (not (all_answered c.posts)) late in (h.0, not-true (all_answered c.posts) h.1)), refl)
+  work_waits _ _ _ e = absurd cc
 
   -- it waits for a thread that hasn't acknowledged the phase or answered the round
   pub waits_rightly : WaitsRightly c (collect c)
-  waits_rightly = either_waits c (all_seen c.posts) (work c.posts.posted_phase c) (c, Waiting) (λ seen. work_waits c.posts.posted_phase) (λ late e. (inl late, refl))
+  waits_rightly = by_cases c (WaitsRightly c) (λ seen. work_waits c.posts.posted_phase) (λ late e. (inl late, refl))
 
   -- between cycles the next one opens
   pub opens_next : c.posts.posted_phase ≡ Idle → all_seen c.posts ≡ true → ((collect c).1 ≡ Worked) × ((collect c).0.posts.posted_phase ≡ Mark)
@@ -99,10 +52,6 @@ acked_where_open c t = by_open (is_open c.posts t)
         by_live : (l : Bool) → (if l then NothingPosted else Absent) ≡ Acked → false ≡ true
         by_live true e = absurd cc
         by_live false e = absurd cc
-
-no_second : (x : Bool) → (x && false) ≡ false
-no_second true = refl
-no_second false = refl
 
 module _ (h : Handshakes) (t : ℕ) (seat : Seat) (here : seat_of h t ≡ Some seat) where
   abbrev next : Seat
@@ -129,7 +78,7 @@ module _ (h : Handshakes) (t : ℕ) (seat : Seat) (here : seat_of h t ≡ Some s
       now_shut : is_open_to h.posted_phase h.has_round next ≡ false
       now_shut =
           ap (λ b. is_open_to h.posted_phase h.has_round (if◌then◌else◌ {A = Seat} b (record seat { answered = true }) (record seat { phase = h.posted_phase }))) seen
-          ∙ ap (λ b. not b || (h.has_round && false)) seen ∙ no_second h.has_round
+          ∙ ap (λ b. not b || (h.has_round && false)) seen ∙ and-false h.has_round
 
       by_open : (b : Bool) → is_open_to h.posted_phase h.has_round seat ≡ b → is_open (acknowledge_phase h t) t ≡ false
       by_open true opened =

@@ -3,52 +3,47 @@ use Rattle.std.proofs.Common.{◌≡◌, ◌≢◌, inl, ◌+◌, ◌-◌, ◌<�
 use Rattle.std.specs.Prelude.{is_some, nat_lt}
 use Rattle.std.specs.Option.{option_map_or}
 use Rattle.std.proofs.lemmas.Bool.Decides.{nat_tests}
-use Rattle.std.proofs.lemmas.List.Elements.{All-head}
 use Rattle.std.proofs.lemmas.Option.{same_Some, slice_get_within}
 use Rattle.std.proofs.Math.Nat.{le-max_left, le-max_right, max-le}
 use Rattle.interpreter.specs.cil_model.declared.events.Event.TheVariants.{Gc}
 use Rattle.interpreter.specs.cil_model.declared.phases.Phase.{Phase}
 use Rattle.interpreter.specs.cil_model.declared.phases.Phase.TheVariants.{Idle, Mark, Allocate, Copy, PreFlip, HeapFlip, ThreadFlip, Reclaim}
 use Rattle.interpreter.specs.cil_model.declared.reports.Report.{Report}
-use Rattle.interpreter.specs.cil_model.declared.reports.Report.TheVariants.{Waiting, Worked}
-use Rattle.interpreter.specs.reference_machine.Cycles.{phase_after}
+use Rattle.interpreter.specs.cil_model.declared.reports.Report.TheVariants.{CycleDone, Waiting, Worked}
 use Rattle.interpreter.specs.object_memory.declared.addresses.Addr.{Addr}
 use Rattle.interpreter.specs.object_memory.declared.values.Value.{Value}
 use Rattle.interpreter.specs.object_memory.declared.values.Value.TheVariants.{Ref}
 use Rattle.interpreter.specs.object_memory.Cells.{Cell, address_after_cell, cell_in, size, used_words}
 use Rattle.interpreter.specs.object_memory.Objects.{Objects}
-use Rattle.interpreter.specs.object_memory.Spaces.{Spaces, clear, found_in, has_other, is_noted, is_old, open_cycle, with_shell}
+use Rattle.interpreter.specs.object_memory.Spaces.{Spaces, clear, found_in, has_other, is_noted, open_cycle, with_shell}
 use Rattle.interpreter.specs.instructions.barriers.Barriers.{with_marked}
 use Rattle.interpreter.proofs.object_memory.Blocks.{range_in}
 use Rattle.interpreter.proofs.object_memory.Offsets.{found_here}
 use Rattle.collector.specs.References.{holds_reference, reference_in}
-use Rattle.collector.specs.MarkSteps.{is_closed, is_none_grey, mark_step, next_mark_step, object_scanned, oldest_cell, slot_scanned, statics_scanned, with_all_marked, without_oldest, word_of}
+use Rattle.collector.specs.MarkSteps.{is_closed, is_none_grey, mark_step, object_scanned, oldest_cell, slot_scanned, statics_scanned, with_all_marked, without_oldest, word_of}
 use Rattle.collector.specs.Attempts.{has_loaded, most_spent, no_attempt, attempt_cost, stage_number, with_loaded}
-use Rattle.collector.specs.CopySteps.{before_word, after_word, copy_step_at, next_copy_step, next_shell_step, needs_copy, object_copied, shell_step, word_step, word_stored}
+use Rattle.collector.specs.CopySteps.{before_word, after_word, copy_step_at, needs_copy, object_copied, shell_step, word_step, word_stored}
 use Rattle.collector.specs.Flips.{clear_step_at, flip_step}
 use Rattle.collector.specs.declared.progress.Attempt.{Attempt}
 use Rattle.collector.specs.declared.progress.Progress.{Progress}
 use Rattle.collector.specs.declared.progress.Stage.{Stage}
 use Rattle.collector.specs.declared.progress.Stage.TheVariants.{Begins, Loaded, Stored}
 use Rattle.collector.specs.declared.progress.TheConstants.{MOST_FAILED_CHECKS}
-use Rattle.collector.specs.phase_handshake.Handshakes.{all_answered, all_seen}
+use Rattle.collector.specs.phase_handshake.Handshakes.{all_answered}
 use Rattle.collector.proofs.Copies.CopyWork.{IsStep, copied_cases, none_stored, one_stored}
 use Rattle.collector.proofs.Copies.CopiedWords.{loaded_checks, loaded_stage}
 use Rattle.collector.proofs.BlockWalks.FirstCells.{found_is}
-use Rattle.simulation.specs.CollectorSteps.{clear_object, collect, cycle_opened, flip_values, mark_object, next_posted, initial_words, round_posted, rounds, work, do_work}
+use Rattle.simulation.specs.CollectorSteps.{cycle_ended, collect, cycle_opened, next_posted, initial_words, round_posted, work}
 use Rattle.simulation.specs.MachineStates.{MachineState}
 use Rattle.simulation.specs.Sound.{IsSound}
-use Rattle.simulation.proofs.CollectorEvents.Soundness.{posting}
 use Rattle.simulation.proofs.CycleBounds.MarkingWork.{AreGreyThere, LeavesNoMore, black_lessens, leaves_itself, most_left, round_left, slot_lessens}
 use Rattle.simulation.proofs.CycleBounds.MarkingByThreads.{all_marks_stay, value_mark_leaves}
 use Rattle.simulation.proofs.CollectorEvents.NextBlockSize.{next_grows}
 use Rattle.simulation.proofs.CollectedHeap.UsedWords.{AreAsLarge, all_marked_uses, as_large, marked_uses}
 use Rattle.simulation.proofs.CycleBounds.WorkLeft.{TakesWork, grey_there, larger, larger_same, static_count, statics_left, takes_nothing, work_left}
-
--- one of two transitions, by a test
-either_takes : (c : MachineState) (b : Bool) (x y : MachineState × Report) → (b ≡ true → TakesWork c Gc x) → (b ≡ false → TakesWork c Gc y) → TakesWork c Gc (if◌then◌else◌ {A = MachineState × Report} b x y)
-either_takes c true x y f g = f refl
-either_takes c false x y f g = g refl
+use Rattle.simulation.proofs.CollectorEvents.EventCases.{IsWork, allocates_copy, by_cases, clears_object, copies_word, ends_allocation, ends_copying, ends_cycle, ends_heap_flip, ends_marking, flips_static, marks_object, opens_cycle, posting, posts_heap_flip, posts_reclaim, posts_round, scans_statics, waits_for_round, allocated, copied, marked, with_flips, with_scan, with_work}
+use Rattle.std.proofs.lemmas.Bool.{not-false}
+use Rattle.collector.proofs.Marks.MarkWork.{next_mark_step-works}
 
 -- an event that waits takes nothing
 waits : (c : MachineState) → TakesWork c Gc (c, Waiting)
@@ -67,12 +62,6 @@ works c d going continues large less = record {
 -- nothing is larger or smaller than itself
 itself_large : (m : Spaces) → AreAsLarge m m
 itself_large m = record { old = refl; new = refl }
-
--- a step of a phase leaves less of it, or the next phase is posted
-worked_takes : (c : MachineState) (x : Progress × Objects × Bool) → c.posts.posted_phase ≢ Idle → phase_after c.posts.posted_phase ≢ Idle → AreAsLarge c.objects.spaces x.1.spaces
-    → (x.2 ≡ true → 1 + work_left (record c { progress = x.0; objects = x.1 }) ≤ work_left c) → 1 + work_left (next_posted c).0 ≤ work_left c → TakesWork c Gc (do_work c x)
-worked_takes c (p, o, true) going continues large step post = works c (record c { progress = p; objects = o }) going going large (step refl)
-worked_takes c (p, o, false) going continues large step post = works c (next_posted c).0 going continues (itself_large c.objects.spaces) post
 
 -- ---- Idle
 
@@ -164,43 +153,29 @@ module _ (c : MachineState) (sound : IsSound (posting Mark c)) where
   round_required false none true true false a b open_still done = absurd cc
   round_required true false true true false a b open_still done = absurd cc
 
-  round_takes : c.progress.scanned_statics ≡ true → is_none_grey c.objects.spaces.grey ≡ true → is_closed c.progress c.objects marking.posts ≡ false → (c.posts.has_round && not (all_answered marking.posts)) ≡ false →
+  round_takes : c.progress.scanned_statics ≡ true → (marked c).2 ≡ false → is_closed c.progress c.objects marking.posts ≡ false → (c.posts.has_round && not (all_answered marking.posts)) ≡ false →
       1 + work_left (round_posted marking) ≤ work_left marking
-  round_takes scanned none more answered =
+  round_takes scanned over more answered =
+      let none = not-false (is_none_grey c.objects.spaces.grey) (sym (next_mark_step-works c.tree c.posts.has_round c.limits.max_words c.progress c.objects sound.heap) ∙ over) in
       let one = round_required c.progress.scanned_statics (is_none_grey c.objects.spaces.grey) c.posts.has_round (all_answered marking.posts) c.objects.spaces.has_marked scanned none more answered in
       let then_left : round_left false true ≡ 0 = refl in
       omega (arith, one, then_left)
 
-  closing_takes : 1 + work_left (next_posted marking).0 ≤ work_left marking
-  closing_takes = omega arith
-
-  rounds_take : c.progress.scanned_statics ≡ true → is_none_grey c.objects.spaces.grey ≡ true → TakesWork marking Gc (rounds marking)
-  rounds_take scanned none =
-      either_takes marking (is_closed c.progress c.objects marking.posts) (next_posted marking)
-      (if◌then◌else◌ {A = MachineState × Report} (c.posts.has_round && not (all_answered marking.posts)) (marking, Waiting) (round_posted marking, Worked))
-      (λ closed. works marking (next_posted marking).0 (λ e. absurd cc) (λ e. absurd cc) (itself_large c.objects.spaces) closing_takes)
-      (λ more. either_takes marking (c.posts.has_round && not (all_answered marking.posts)) (marking, Waiting) (round_posted marking, Worked) (λ late. waits marking) (λ answered. works marking (round_posted marking) (λ e. absurd cc) (λ e. absurd cc) (record { old = refl; new = refl }) (round_takes scanned none more answered)))
+  -- a step of Mark takes work where there was an object to mark
+  abbrev MarkTakes : Progress × Objects × Bool → Type 0
+  MarkTakes x = x.2 ≡ true → TakesWork marking Gc (with_work marking x, Worked)
 
   -- the oldest grey object is there
-  marks_take : c.progress.scanned_statics ≡ true → TakesWork marking Gc (mark_object marking (next_mark_step c.tree c.progress c.objects))
-  marks_take scanned = by_grey c.objects.spaces.grey refl
+  marks_take : (marked c).2 ≡ true → TakesWork marking Gc (with_work marking (marked c), Worked)
+  marks_take step = by_grey c.objects.spaces.grey refl step
     where
-      by_cell : (g : Addr) (rest : List Addr) → c.objects.spaces.grey ≡ g ∷ rest → (o : Option Cell) → cell_in c.objects.spaces.old g ≡ o → TakesWork marking Gc (mark_object marking (mark_step c.tree c.progress c.objects (g ∷ rest) o))
-      by_cell g rest grey None none =
-          let here : is_old c.objects.spaces g ≡ true = All-head (λ a. is_old c.objects.spaces a ≡ true) g rest (rw grey at there) in
-          absurd cc
-      by_cell g rest grey (Some cell) lies = works marking (record marking { progress = (object_scanned c.tree c.progress c.objects rest cell).0; objects = (object_scanned c.tree c.progress c.objects rest cell).1 }) (λ e. absurd cc) (λ e. absurd cc) (object_large g rest cell grey lies) (object_takes g rest cell grey lies)
+      by_cell : (g : Addr) (rest : List Addr) → c.objects.spaces.grey ≡ g ∷ rest → (o : Option Cell) → cell_in c.objects.spaces.old g ≡ o → MarkTakes (mark_step c.tree c.progress c.objects (g ∷ rest) o)
+      by_cell g rest grey None none some = absurd cc
+      by_cell g rest grey (Some cell) lies some = works marking (with_work marking (mark_step c.tree c.progress c.objects (g ∷ rest) (Some cell))) (λ e. absurd cc) (λ e. absurd cc) (object_large g rest cell grey lies) (object_takes g rest cell grey lies)
 
-      by_grey : (grey : List Addr) → c.objects.spaces.grey ≡ grey → TakesWork marking Gc (mark_object marking (mark_step c.tree c.progress c.objects grey (oldest_cell c.objects grey)))
-      by_grey [] none = rounds_take scanned (ap is_none_grey none)
-      by_grey (g ∷ rest) grey = by_cell g rest grey (cell_in c.objects.spaces.old g) refl
-
-  marking_takes : TakesWork marking Gc (work Mark marking)
-  marking_takes =
-      either_takes marking c.progress.scanned_statics (mark_object marking (next_mark_step c.tree c.progress c.objects))
-      (record marking { progress = (statics_scanned c.progress c.objects c.statics).0; objects = (statics_scanned c.progress c.objects c.statics).1 }, Worked)
-      marks_take
-      (λ early. works marking (record marking { progress = (statics_scanned c.progress c.objects c.statics).0; objects = (statics_scanned c.progress c.objects c.statics).1 }) (λ e. absurd cc) (λ e. absurd cc) scan_large (scan_takes early))
+      by_grey : (grey : List Addr) → c.objects.spaces.grey ≡ grey → MarkTakes (mark_step c.tree c.progress c.objects grey (oldest_cell c.objects grey))
+      by_grey [] none some = absurd cc
+      by_grey (g ∷ rest) grey some = by_cell g rest grey (cell_in c.objects.spaces.old g) refl some
 
 -- ---- Allocate
 
@@ -227,9 +202,6 @@ module _ (c : MachineState) (sound : IsSound (posting Allocate c)) where
       let long = sound.heap.blocks.grows refl in
       let large = (look_large (Some cell)).new in
       omega (arith, within, fits, long, large)
-
-  allocating_takes : TakesWork allocating Gc (work Allocate allocating)
-  allocating_takes = worked_takes allocating (next_shell_step c.progress c.objects) (λ e. absurd cc) (λ e. absurd cc) (look_large (cell_in c.objects.spaces.old (address_after_cell c.objects.spaces.old c.progress.cursor))) (look_takes (cell_in c.objects.spaces.old (address_after_cell c.objects.spaces.old c.progress.cursor)) refl) (omega arith)
 
 -- ---- Copy
 
@@ -362,9 +334,6 @@ module _ (c : MachineState) (sound : IsSound (posting Copy c)) where
   step_large o (none_stored same) = subst (λ (x : Objects). AreAsLarge c.objects.spaces x.spaces) (sym same) (itself_large c.objects.spaces)
   step_large o (one_stored at cell b t lies other same) = subst (λ (x : Objects). AreAsLarge c.objects.spaces x.spaces) (sym same) (record { old = refl; new = refl })
 
-  copying_takes : TakesWork copying Gc (work Copy copying)
-  copying_takes = worked_takes copying (next_copy_step c.tree c.progress c.objects) (λ e. absurd cc) (λ e. absurd cc) (step_large (next_copy_step c.tree c.progress c.objects).1 (copied_cases c.tree c.progress c.objects)) (copy_takes (found_in has_other c.objects.spaces.old (start + c.progress.cursor)) refl) (omega arith)
-
 -- ---- HeapFlip
 
 module _ (c : MachineState) (statics : length c.statics ≡ static_count c) where
@@ -372,14 +341,11 @@ module _ (c : MachineState) (statics : length c.statics ≡ static_count c) wher
   flipping = posting HeapFlip c
 
   -- the next static field is flipped
-  flip_takes : (o : Option Value) → slice_get c.statics c.progress.flipped_statics ≡ o → TakesWork flipping Gc (flip_values flipping (flip_step c.progress c.objects c.statics o))
-  flip_takes None none = works flipping (next_posted flipping).0 (λ e. absurd cc) (λ e. absurd cc) (itself_large c.objects.spaces) (omega arith)
-  flip_takes (Some v) there =
+  flip_takes : (o : Option Value) → slice_get c.statics c.progress.flipped_statics ≡ o → (flip_step c.progress c.objects c.statics o).2 ≡ true → TakesWork flipping Gc (with_flips flipping (flip_step c.progress c.objects c.statics o), Worked)
+  flip_takes None none some = absurd cc
+  flip_takes (Some v) there some =
       let near = slice_get_within c.statics c.progress.flipped_statics v there in
-      works flipping (record flipping { progress = (flip_step c.progress c.objects c.statics (Some v)).0; statics = (flip_step c.progress c.objects c.statics (Some v)).1 }) (λ e. absurd cc) (λ e. absurd cc) (itself_large c.objects.spaces) (omega (arith, near, statics))
-
-  flipping_takes : TakesWork flipping Gc (work HeapFlip flipping)
-  flipping_takes = flip_takes (slice_get c.statics c.progress.flipped_statics) refl
+      works flipping (with_flips flipping (flip_step c.progress c.objects c.statics (Some v))) (λ e. absurd cc) (λ e. absurd cc) (itself_large c.objects.spaces) (omega (arith, near, statics))
 
 -- ---- Reclaim
 
@@ -391,7 +357,7 @@ module _ (c : MachineState) (sound : IsSound (posting Reclaim c)) where
   new_start = c.objects.spaces.new.start
 
   -- the last event of a cycle
-  ends : TakesWork clearing Gc (clear_object clearing (c.progress, c.objects, false))
+  ends : TakesWork clearing Gc (cycle_ended clearing, CycleDone)
   ends = record {
     less = λ going. omega arith;
     anew = λ is. absurd cc;
@@ -408,34 +374,43 @@ module _ (c : MachineState) (sound : IsSound (posting Reclaim c)) where
       option_map_or {U = Progress × Objects × Bool} (λ (x : Cell). (record c.progress { cursor = at - new_start + size x }, record c.objects { spaces = clear c.objects.spaces (record { number = at }) }, true)) o (c.progress, c.objects, false)
 
   -- the cursor advances past an object
-  cell_takes : (at : ℕ) → found_in is_noted c.objects.spaces.new (new_start + c.progress.cursor) ≡ Some at → (o : Option Cell) → cell_in c.objects.spaces.new (record { number = at }) ≡ o → TakesWork clearing Gc (clear_object clearing (cleared_cell at o))
-  cell_takes at found None none = ends
-  cell_takes at found (Some cell) lies =
+  cell_takes : (at : ℕ) → found_in is_noted c.objects.spaces.new (new_start + c.progress.cursor) ≡ Some at → (o : Option Cell) → cell_in c.objects.spaces.new (record { number = at }) ≡ o → (cleared_cell at o).2 ≡ true → TakesWork clearing Gc (with_work clearing (cleared_cell at o), Worked)
+  cell_takes at found None none some = absurd cc
+  cell_takes at found (Some cell) lies some =
       let following : new_start + c.progress.cursor ≤ at = (found_is is_noted c.objects.spaces.new (new_start + c.progress.cursor) at found).following in
       let within : at + size cell ≤ new_start + used_words c.objects.spaces.new.cells = (range_in c.objects.spaces.new (record { number = at }) cell lies).1 in
       let fits = sound.heap.blocks.spaces.new.fits in
-      works clearing (record clearing { progress = (cleared_cell at (Some cell)).0; objects = (cleared_cell at (Some cell)).1 }) (λ e. absurd cc) (λ e. absurd cc) (record { old = refl; new = refl }) (omega (arith, following, within, fits))
+      works clearing (with_work clearing (cleared_cell at (Some cell))) (λ e. absurd cc) (λ e. absurd cc) (record { old = refl; new = refl }) (omega (arith, following, within, fits))
 
-  clear_takes : (found : Option ℕ) → found_in is_noted c.objects.spaces.new (new_start + c.progress.cursor) ≡ found → TakesWork clearing Gc (clear_object clearing (clear_step_at c.progress c.objects found))
-  clear_takes None none = ends
-  clear_takes (Some at) found = cell_takes at found (cell_in c.objects.spaces.new (record { number = at })) refl
-
-  clearing_takes : TakesWork clearing Gc (work Reclaim clearing)
-  clearing_takes = clear_takes (found_in is_noted c.objects.spaces.new (new_start + c.progress.cursor)) refl
+  clear_takes : (found : Option ℕ) → found_in is_noted c.objects.spaces.new (new_start + c.progress.cursor) ≡ found → (clear_step_at c.progress c.objects found).2 ≡ true → TakesWork clearing Gc (with_work clearing (clear_step_at c.progress c.objects found), Worked)
+  clear_takes None none some = absurd cc
+  clear_takes (Some at) found some = cell_takes at found (cell_in c.objects.spaces.new (record { number = at })) refl some
 
 -- ---- each phase
 
 module _ (c : MachineState) (statics : length c.statics ≡ static_count c) where
-  work_takes : (x : Phase) → IsSound (posting x c) → TakesWork (posting x c) Gc (work x (posting x c))
-  work_takes Idle sound = initial_takes c sound
-  work_takes Mark sound = marking_takes c sound
-  work_takes Allocate sound = allocating_takes c sound
-  work_takes Copy sound = copying_takes c sound
-  work_takes PreFlip sound = works (posting PreFlip c) (next_posted (posting PreFlip c)).0 (λ e. absurd cc) (λ e. absurd cc) (itself_large c.objects.spaces) (omega arith)
-  work_takes HeapFlip sound = flipping_takes c statics
-  work_takes ThreadFlip sound = works (posting ThreadFlip c) (next_posted (posting ThreadFlip c)).0 (λ e. absurd cc) (λ e. absurd cc) (itself_large c.objects.spaces) (omega arith)
-  work_takes Reclaim sound = clearing_takes c sound
+  work_takes : (x : Phase) (after : MachineState × Report) → IsWork c x after → IsSound (posting x c) → TakesWork (posting x c) Gc after
+  work_takes _ _ opens_cycle sound = initial_takes c sound
+  work_takes _ _ (scans_statics early) sound = works (posting Mark c) (with_scan (posting Mark c)) (λ e. absurd cc) (λ e. absurd cc) (scan_large c sound) (scan_takes c sound early)
+  work_takes _ _ (marks_object scanned step) sound = marks_take c sound step
+  work_takes _ _ (ends_marking scanned over closed) sound = works (posting Mark c) (next_posted (posting Mark c)).0 (λ e. absurd cc) (λ e. absurd cc) (itself_large c.objects.spaces) (omega arith)
+  work_takes _ _ (waits_for_round late) sound = waits (posting Mark c)
+  work_takes _ _ (posts_round scanned over more answered) sound = works (posting Mark c) (round_posted (posting Mark c)) (λ e. absurd cc) (λ e. absurd cc) (record { old = refl; new = refl }) (round_takes c sound scanned over more answered)
+  work_takes _ _ (allocates_copy step) sound =
+      let cell : Option Cell = cell_in c.objects.spaces.old (address_after_cell c.objects.spaces.old c.progress.cursor) in
+      works (posting Allocate c) (with_work (posting Allocate c) (allocated c)) (λ e. absurd cc) (λ e. absurd cc) (look_large c sound cell) (look_takes c sound cell refl step)
+  work_takes _ _ (ends_allocation over) sound = works (posting Allocate c) (next_posted (posting Allocate c)).0 (λ e. absurd cc) (λ e. absurd cc) (itself_large c.objects.spaces) (omega arith)
+  work_takes _ _ (copies_word step) sound =
+      works (posting Copy c) (with_work (posting Copy c) (copied c)) (λ e. absurd cc) (λ e. absurd cc) (step_large c sound (copied c).1 (copied_cases c.tree c.progress c.objects))
+      (copy_takes c sound (found_in has_other c.objects.spaces.old (c.objects.spaces.old.start + c.progress.cursor)) refl step)
+  work_takes _ _ (ends_copying over) sound = works (posting Copy c) (next_posted (posting Copy c)).0 (λ e. absurd cc) (λ e. absurd cc) (itself_large c.objects.spaces) (omega arith)
+  work_takes _ _ posts_heap_flip sound = works (posting PreFlip c) (next_posted (posting PreFlip c)).0 (λ e. absurd cc) (λ e. absurd cc) (itself_large c.objects.spaces) (omega arith)
+  work_takes _ _ (flips_static step) sound = flip_takes c statics (slice_get c.statics c.progress.flipped_statics) refl step
+  work_takes _ _ (ends_heap_flip over) sound = works (posting HeapFlip c) (next_posted (posting HeapFlip c)).0 (λ e. absurd cc) (λ e. absurd cc) (itself_large c.objects.spaces) (omega arith)
+  work_takes _ _ posts_reclaim sound = works (posting ThreadFlip c) (next_posted (posting ThreadFlip c)).0 (λ e. absurd cc) (λ e. absurd cc) (itself_large c.objects.spaces) (omega arith)
+  work_takes _ _ (clears_object step) sound = clear_takes c sound (found_in is_noted c.objects.spaces.new (c.objects.spaces.new.start + c.progress.cursor)) refl step
+  work_takes _ _ (ends_cycle over) sound = ends c sound
 
   -- so does each event of the collector
   pub collector_takes : IsSound c → TakesWork c Gc (collect c)
-  collector_takes sound = either_takes c (all_seen c.posts) (work c.posts.posted_phase c) (c, Waiting) (λ seen. work_takes c.posts.posted_phase sound) (λ late. waits c)
+  collector_takes sound = by_cases c (TakesWork c Gc) (λ seen after is. work_takes c.posts.posted_phase after is sound) (λ late. waits c)

@@ -1,15 +1,15 @@
 -- No space of a machine has more words in use than all objects that were born so far, whatever events of the collector there were: so a machine with
 -- a collector refuses no birth for which one space without a collector has room.
 use Rattle.std.proofs.Common.{◌≡◌, ◌≤◌, ◌<◌, ◌+◌, ◌-◌, ◌&&◌, ℕ, zero, suc, Bool, true, false, if◌then◌else◌, is_none, List, [], ◌∷◌, length, Option, Some, None, option_map, option_and_then, slice_get, refl, inr, sym, ap, ◌∙◌, subst, arith}
-use Rattle.std.specs.Prelude.{nat_lt, not}
+use Rattle.std.specs.Prelude.{nat_lt}
 use Rattle.std.specs.Option.{option_map_or}
 use Rattle.std.proofs.lemmas.Option.{same_Some}
 use Rattle.interpreter.specs.cil_model.declared.events.Event.TheVariants.{Step, Ack, Gc}
 use Rattle.interpreter.specs.cil_model.declared.limits.Limits.{Limits}
 use Rattle.interpreter.specs.cil_model.declared.phases.Phase.{Phase}
-use Rattle.interpreter.specs.cil_model.declared.phases.Phase.TheVariants.{Idle, Mark, Allocate, Copy, HeapFlip, ThreadFlip, Reclaim}
+use Rattle.interpreter.specs.cil_model.declared.phases.Phase.TheVariants.{Idle, Mark, ThreadFlip, Reclaim}
 use Rattle.interpreter.specs.cil_model.declared.reports.Report.{Report}
-use Rattle.interpreter.specs.cil_model.declared.reports.Report.TheVariants.{Absent, Acked, NothingPosted, Waiting, Worked}
+use Rattle.interpreter.specs.cil_model.declared.reports.Report.TheVariants.{Absent, Acked, NothingPosted}
 use Rattle.interpreter.specs.cil_model.declared.trees.Method.{Method}
 use Rattle.interpreter.specs.cil_model.declared.trees.Tree.{Tree}
 use Rattle.interpreter.specs.cil_model.declared.types.ClassName.{ClassName}
@@ -21,7 +21,6 @@ use Rattle.interpreter.specs.reference_machine.States.{State}
 use Rattle.interpreter.specs.reference_machine.Steps.{Answers, step}
 use Rattle.interpreter.specs.loaded_program.MethodNumbers.{number_of}
 use Rattle.interpreter.specs.object_memory.declared.addresses.Addr.{Addr}
-use Rattle.interpreter.specs.object_memory.declared.values.Value.{Value}
 use Rattle.interpreter.specs.object_memory.declared.values.Value.TheVariants.{Ref}
 use Rattle.interpreter.specs.object_memory.Cells.{Cell, cell_in, free_words, next_address, size, store_copies, store_monitor, store_slot, used_words}
 use Rattle.interpreter.specs.object_memory.Objects.{Objects}
@@ -36,11 +35,10 @@ use Rattle.interpreter.proofs.cil_model.Lists.{none_is_some}
 use Rattle.interpreter.proofs.object_memory.Blocks.{used_in}
 use Rattle.interpreter.proofs.object_memory.Rooms.{HasShellRoom-shell}
 use Rattle.interpreter.proofs.object_memory.TwoSpaces.TwoBlocks.{slot_keeps}
-use Rattle.collector.specs.CopySteps.{address_after_cell, copy_step_at, next_copy_step, next_shell_step, object_copied, shell_made, shell_step, word_step, word_stored, after_word, before_word}
+use Rattle.collector.specs.CopySteps.{address_after_cell, copy_step_at, object_copied, shell_made, shell_step, word_step, word_stored, after_word, before_word}
 use Rattle.collector.specs.Attempts.{with_loaded}
-use Rattle.collector.specs.Flips.{clear_step_at, next_clear_step, next_flip_step}
-use Rattle.collector.specs.MarkSteps.{is_closed, mark_step, next_mark_step, object_scanned, oldest_cell, slot_scanned, statics_scanned, without_oldest, word_of}
-use Rattle.collector.specs.Phases.{is_of_cycle}
+use Rattle.collector.specs.Flips.{clear_step_at}
+use Rattle.collector.specs.MarkSteps.{mark_step, object_scanned, oldest_cell, slot_scanned, without_oldest, word_of}
 use Rattle.collector.specs.References.{holds_reference, reference_in}
 use Rattle.collector.specs.Soundness.{copied_word}
 use Rattle.collector.specs.declared.progress.Attempt.{Attempt}
@@ -48,8 +46,8 @@ use Rattle.collector.specs.declared.progress.Progress.{Progress}
 use Rattle.collector.specs.declared.progress.Stage.{Stage}
 use Rattle.collector.specs.declared.progress.Stage.TheVariants.{Begins, Loaded, Stored}
 use Rattle.collector.specs.declared.progress.TheConstants.{MOST_FAILED_CHECKS}
-use Rattle.collector.specs.phase_handshake.Handshakes.{all_answered, all_seen, is_open, own_phase}
-use Rattle.simulation.specs.CollectorSteps.{answers_round, clear_object, collect, flip_values, mark_work, mark_object, next_posted, objects_after, round_posted, rounds, with_acknowledgement, with_roots_marked, with_status_marked, with_thread_marked, work, do_work}
+use Rattle.collector.specs.phase_handshake.Handshakes.{is_open, own_phase}
+use Rattle.simulation.specs.CollectorSteps.{answers_round, collect, mark_object, objects_after, with_acknowledgement, with_roots_marked, with_status_marked, with_thread_marked}
 use Rattle.simulation.specs.MachineStates.{MachineState}
 use Rattle.simulation.specs.Rooms.{HasNoRoom, spaces_of}
 use Rattle.simulation.specs.Sound.{IsSound}
@@ -61,6 +59,7 @@ use Rattle.simulation.proofs.CycleBounds.OpenCycles.{gc_is}
 use Rattle.simulation.proofs.Threads.Steps.{beyond, is_beyond, step_follows}
 use Rattle.simulation.proofs.CollectedHeap.MemoryWithRoom.{closed_room, open_room}
 use Rattle.simulation.proofs.CollectedHeap.UsedWords.{UsesAsMuch, all_marked_uses, change_uses, marked_uses, uses_itself, uses_then}
+use Rattle.simulation.proofs.CollectorEvents.EventCases.{IsWork, allocates_copy, by_cases, clears_object, copies_word, ends_cycle, marks_object, opens_cycle, posting, posts_round, scans_statics}
 
 -- The old space has these words at least, and neither has more in use than all that are given.
 pub record AreWithin (least all : ℕ) (m : Spaces) : Type 0 where
@@ -167,60 +166,26 @@ module _ (least all : ℕ) where
 
   -- ---- the collector
 
-  abbrev Within : MachineState × Report → Type 0
-  Within x = AreWithin least all x.0.objects.spaces
+  module _ (c : MachineState) (h : AreWithin least all c.objects.spaces) where
+    work_within : (x : Phase) (after : MachineState × Report) → IsWork c x after → IsSound (posting x c) → AreWithin least all after.0.objects.spaces
+    work_within _ _ opens_cycle sound = record { words = h.words; old = h.old; new = omega arith }
+    work_within _ _ (scans_statics early) sound = uses_within c.objects.spaces _ (all_marked_uses c.statics c.objects) h
+    work_within _ _ (marks_object scanned step) sound = uses_within c.objects.spaces _ (mark_uses c.tree c.progress c.objects c.objects.spaces.grey (oldest_cell c.objects c.objects.spaces.grey)) h
+    work_within _ _ (posts_round scanned over more answered) sound = record { words = h.words; old = h.old; new = h.new }
+    work_within _ _ (allocates_copy step) sound =
+        look_within c.progress c.objects (cell_in c.objects.spaces.old (address_after_cell c.objects.spaces.old c.progress.cursor)) sound.heap.blocks.spaces (sound.heap.copies.room (inr refl)) refl h
+    work_within _ _ (copies_word step) sound = uses_within c.objects.spaces _ (copy_uses c.tree c.progress c.objects (found_in has_other c.objects.spaces.old (c.objects.spaces.old.start + c.progress.cursor))) h
+    work_within _ _ (clears_object step) sound = uses_within c.objects.spaces _ (clear_uses c.progress c.objects (found_in is_noted c.objects.spaces.new (c.objects.spaces.new.start + c.progress.cursor))) h
+    work_within _ _ (ends_cycle over) sound = record { words = omega (arith, h.words, sound.heap.blocks.grows refl); old = h.new; new = omega arith }
+    work_within _ _ _ sound = h
 
-  module _ (c : MachineState) (sound : IsSound c) (h : AreWithin least all c.objects.spaces) where
-    worked_within : (x : Progress × Objects × Bool) → AreWithin least all x.1.spaces → Within (do_work c x)
-    worked_within (p, o, true) done = done
-    worked_within (p, o, false) done = h
-
-    rounds_within : Within (rounds c)
-    rounds_within =
-        either Within (is_closed c.progress c.objects c.posts) (next_posted c) (if◌then◌else◌ {A = MachineState × Report} (c.posts.has_round && not (all_answered c.posts)) (c, Waiting) (round_posted c, Worked)) h
-        (either Within (c.posts.has_round && not (all_answered c.posts)) (c, Waiting) (round_posted c, Worked) h (record { words = h.words; old = h.old; new = h.new }))
-
-    marked_within : (x : Progress × Objects × Bool) → AreWithin least all x.1.spaces → Within (mark_object c x)
-    marked_within (p, o, true) done = done
-    marked_within (p, o, false) done = rounds_within
-
-    flipped_within : (x : Progress × List Value × Bool) → Within (flip_values c x)
-    flipped_within (p, statics, true) = h
-    flipped_within (p, statics, false) = h
-
-    cleared_within : c.posts.posted_phase ≡ Reclaim → (x : Progress × Objects × Bool) → AreWithin least all x.1.spaces → Within (clear_object c x)
-    cleared_within posted_phase (p, o, true) done = done
-    cleared_within posted_phase (p, o, false) done = record { words = omega (arith, h.words, sound.heap.blocks.grows (ap is_of_cycle posted_phase)); old = h.new; new = omega arith }
-
-    mark_within : Within (mark_work c)
-    mark_within =
-        either Within c.progress.scanned_statics (mark_object c (next_mark_step c.tree c.progress c.objects))
-        (record c { progress = (statics_scanned c.progress c.objects c.statics).0; objects = (statics_scanned c.progress c.objects c.statics).1 }, Worked)
-        (marked_within (next_mark_step c.tree c.progress c.objects) (uses_within c.objects.spaces _ (mark_uses c.tree c.progress c.objects c.objects.spaces.grey (oldest_cell c.objects c.objects.spaces.grey)) h))
-        (uses_within c.objects.spaces _ (all_marked_uses c.statics c.objects) h)
-
-    work_within : (posted_phase : Phase) → c.posts.posted_phase ≡ posted_phase → Within (work posted_phase c)
-    work_within Idle is = record { words = h.words; old = h.old; new = omega arith }
-    work_within Mark is = mark_within
-    work_within Allocate is =
-        worked_within (next_shell_step c.progress c.objects)
-        (look_within c.progress c.objects (cell_in c.objects.spaces.old (address_after_cell c.objects.spaces.old c.progress.cursor)) sound.heap.blocks.spaces (sound.heap.copies.room (inr is)) refl h)
-    work_within Copy is =
-        worked_within (next_copy_step c.tree c.progress c.objects)
-        (uses_within c.objects.spaces _ (copy_uses c.tree c.progress c.objects (found_in has_other c.objects.spaces.old (c.objects.spaces.old.start + c.progress.cursor))) h)
-    work_within HeapFlip is = flipped_within (next_flip_step c.progress c.objects c.statics)
-    work_within Reclaim is =
-        cleared_within is (next_clear_step c.progress c.objects)
-        (uses_within c.objects.spaces _ (clear_uses c.progress c.objects (found_in is_noted c.objects.spaces.new (c.objects.spaces.new.start + c.progress.cursor))) h)
-    work_within _ is = h
-
-    collected_within : Within (collect c)
-    collected_within = either Within (all_seen c.posts) (work c.posts.posted_phase c) (c, Waiting) (work_within c.posts.posted_phase refl) h
+    collected_within : IsSound c → AreWithin least all (collect c).0.objects.spaces
+    collected_within sound = by_cases c (λ x. AreWithin least all x.0.objects.spaces) (λ seen after is. work_within c.posts.posted_phase after is sound) (λ late. h)
 
 -- what is no step keeps within births
 pub collection_within : (c : MachineState) (s : State) → Represents c s → IsWithinBirths c s → (after : MachineState × Report) → IsTransition c Gc after → AreWithin c.limits.words (words_of_all c.tree s.objects) after.0.objects.spaces
 collection_within c s r h after transition =
-    subst (λ (x : MachineState × Report). AreWithin c.limits.words (words_of_all c.tree s.objects) x.0.objects.spaces) (sym transition) (collected_within c.limits.words (words_of_all c.tree s.objects) c r.sound h)
+    subst (λ (x : MachineState × Report). AreWithin c.limits.words (words_of_all c.tree s.objects) x.0.objects.spaces) (sym transition) (collected_within c.limits.words (words_of_all c.tree s.objects) c h r.sound)
 
 pub acknowledgement_within : (c : MachineState) (s : State) (t : ℕ) → IsWithinBirths c s → (after : MachineState × Report) → IsTransition c (Ack t) after → AreWithin c.limits.words (words_of_all c.tree s.objects) after.0.objects.spaces
 acknowledgement_within c s t h after transition =

@@ -1,16 +1,16 @@
 -- What a cycle keeps has a name after each event of the collector and each acknowledgement, where it has one before.
 use Rattle.std.proofs.Common.{◌≡◌, ◌⊎◌, ◌+◌, ◌-◌, ◌==◌, ℕ, Bool, true, false, if◌then◌else◌, List, [], ◌∷◌, map, Option, Some, None, is_some, slice_get, refl, inl, inr, sym, ap, ◌∙◌, subst}
-use Rattle.std.specs.Prelude.{◌||◌, ◌&&◌, not, nat_lt, length, unwrap_or, All}
+use Rattle.std.specs.Prelude.{◌||◌, nat_lt, length, unwrap_or, All}
 use Rattle.std.specs.List.{AllByRecursion}
 use Rattle.std.specs.Option.{option_map_or}
 use Rattle.std.proofs.lemmas.Bool.{or_cases, or_left, or_right}
 use Rattle.std.proofs.lemmas.List.Elements.{All-head}
 use Rattle.std.proofs.lemmas.Option.{same_Some}
 use Rattle.interpreter.specs.cil_model.declared.phases.Phase.{Phase}
-use Rattle.interpreter.specs.cil_model.declared.phases.Phase.TheVariants.{Idle, Mark, Allocate, Copy, PreFlip, HeapFlip, ThreadFlip, Reclaim}
+use Rattle.interpreter.specs.cil_model.declared.phases.Phase.TheVariants.{Allocate, Copy, PreFlip, Reclaim}
 use Rattle.interpreter.specs.cil_model.declared.reports.End.{End}
 use Rattle.interpreter.specs.cil_model.declared.reports.Report.{Report}
-use Rattle.interpreter.specs.cil_model.declared.reports.Report.TheVariants.{CycleDone, Waiting, Worked}
+use Rattle.interpreter.specs.cil_model.declared.reports.Report.TheVariants.{Waiting}
 use Rattle.interpreter.specs.cil_model.declared.trees.Tree.{Tree}
 use Rattle.interpreter.specs.cil_model.Fields.{FieldKey}
 use Rattle.interpreter.specs.cil_model.Legality.{IsLegal}
@@ -30,10 +30,10 @@ use Rattle.interpreter.specs.threads_monitors.declared.threads.ThreadStatus.{Thr
 use Rattle.interpreter.specs.threads_monitors.declared.threads.ThreadStatus.TheVariants.{Ended, Live}
 use Rattle.interpreter.specs.threads_monitors.declared.threads.Thread.{Thread}
 use Rattle.reference_machine.specs.TypedStates.{IsTyped}
-use Rattle.collector.specs.phase_handshake.Handshakes.{Handshakes, all_answered, all_seen}
+use Rattle.collector.specs.phase_handshake.Handshakes.{Handshakes}
 use Rattle.collector.specs.CopySteps.{address_after_cell, next_copy_step, next_shell_step}
-use Rattle.collector.specs.Flips.{clear_step_at, next_clear_step, next_flip_step}
-use Rattle.collector.specs.MarkSteps.{is_closed, mark_step, next_mark_step, object_scanned, oldest_cell, slot_scanned, statics_scanned, with_all_marked, without_oldest, word_of}
+use Rattle.collector.specs.Flips.{clear_step_at}
+use Rattle.collector.specs.MarkSteps.{mark_step, object_scanned, oldest_cell, slot_scanned, with_all_marked, without_oldest, word_of}
 use Rattle.collector.specs.Phases.{is_live, is_marked_cell, is_marked_old, is_new}
 use Rattle.collector.specs.References.{Test, ValuePasses, holds_reference, is_permanent, reference_in}
 use Rattle.collector.specs.Soundness.{IsListed, IsSoundHeap}
@@ -45,19 +45,19 @@ use Rattle.collector.proofs.Marks.MarkedHeaps.{AreDarker-with_all_marked}
 use Rattle.collector.proofs.Copies.AllocateWork.{looked_sound}
 use Rattle.collector.proofs.Addresses.Tests.{mark_is, marked_cell, never, new_cell, new_is, none_is_new, permanent_not_old}
 use Rattle.simulation.specs.Agreement.{Agree}
-use Rattle.simulation.specs.CollectorSteps.{clear_object, collect, cycle_ended, flip_values, mark_object, next_posted, round_posted, rounds, with_acknowledgement, work, do_work}
+use Rattle.simulation.specs.CollectorSteps.{collect, next_posted, with_acknowledgement}
 use Rattle.simulation.specs.MachineStates.{MachineState}
 use Rattle.simulation.specs.Sound.{IsSound}
 use Rattle.simulation.specs.Refines.{IsHeap, IsThread, IsValue, Names, StatusRefines, RefinesUnder, null_reference, reference}
 use Rattle.simulation.proofs.CollectorEvents.AcknowledgementCases.{after_acknowledgement, posts_after}
 use Rattle.simulation.proofs.ListLaws.AgreeingLists.{agree_at}
 use Rattle.simulation.proofs.CollectedHeap.RewrittenCells.{IsNamedWord, contents_named}
-use Rattle.simulation.proofs.CollectorEvents.Soundness.{posting}
 use Rattle.simulation.proofs.RetainedWords.CycleNames.{AreCopiesOfMarked, IsCopyOfMarked, IsNamed, copies_darker, is_kept, kept_darker, kept_is_live, value_mark_adds}
 use Rattle.simulation.proofs.Representation.NormalNames.{IsNormal, other_cell}
 use Rattle.simulation.proofs.Memory.ReferenceSlots.{typed_is_linked}
 use Rattle.simulation.proofs.Representation.RootReferences.{roots_pass}
 use Rattle.simulation.proofs.CollectorEvents.RootMarks.{status_values, thread_marked, thread_values}
+use Rattle.simulation.proofs.CollectorEvents.EventCases.{IsWork, allocates_copy, by_cases, clears_object, copies_word, ends_allocation, ends_copying, ends_cycle, ends_marking, marks_object, opens_cycle, posting, scans_statics, marked}
 
 -- What is kept has a name; and while objects get their copies, each new one is the copy of a marked one.
 pub record HasNames (name : Names) (c : MachineState) : Type 0 where
@@ -218,56 +218,9 @@ module _ (c : MachineState) (s : State) (legal : IsLegal c.tree) (typed : IsType
   abbrev Then : MachineState × Report → Type 0
   Then x = Renames name x.0 names → HasNames names x.0
 
-  either_then : (b : Bool) (x y : MachineState × Report) → (b ≡ true → Then x) → (b ≡ false → Then y) → Then (if◌then◌else◌ {A = MachineState × Report} b x y)
-  either_then true x y f g = f refl
-  either_then false x y f g = g refl
-
   -- it is so where it had a name
   by_old : (x : MachineState × Report) → ((a : Addr) → is_kept x.0.posts.posted_phase x.0.objects.spaces a ≡ true → IsNamed name a) → AreCopiesOfMarked x.0.posts.posted_phase x.0.objects.spaces → Then x
   by_old x kept copies renames = renamed name x.0 names renames (record { kept = kept; copies = copies })
-
-  -- a step was done, or none was left
-  worked_then : (x : Phase) (step : Progress × Objects × Bool) → Then (record (posting x c) { progress = step.0; objects = step.1 }, Worked) → Then (next_posted (posting x c)) → Then (do_work (posting x c) step)
-  worked_then x (p, o, true) works posts = works
-  worked_then x (p, o, false) works posts = posts
-
-  -- ---- Idle: nothing is marked when a cycle opens
-
-  opens_then : IsSound (posting Idle c) → Then (work Idle (posting Idle c))
-  opens_then sound = by_old (work Idle (posting Idle c)) (λ a h. (let d = marked_cell c.objects.spaces a h in never (sym (sound.heap.copies.unmarked a d.0 d.1 refl) ∙ d.2))) (λ copying. never copying)
-
-  -- ---- Mark
-
-  module _ (sound : IsSound (posting Mark c)) (has : HasNames name (posting Mark c)) where
-    spaces : AreSpaces c.objects.spaces
-    spaces = sound.heap.blocks.spaces
-
-    -- nothing is new until marking ends
-    marking_ends : Then (next_posted (posting Mark c))
-    marking_ends = by_old (next_posted (posting Mark c)) has.kept (λ copying y new. (let d = new_cell c.objects.spaces y new in none_is_some d.0 (sym (none_is_new c.objects.spaces y (sound.heap.blocks.none_new refl)) ∙ d.1)))
-
-    dark_then : (p : Progress) (o : Objects) → ((a : Addr) → is_marked_old o.spaces a ≡ true → IsNamed name a) → Then (record (posting Mark c) { progress = p; objects = o }, Worked)
-    dark_then p o kept = by_old (record (posting Mark c) { progress = p; objects = o }, Worked) kept (λ copying. never copying)
-
-    rounds_then : Then (rounds (posting Mark c))
-    rounds_then = either_then (is_closed c.progress c.objects (posting Mark c).posts) (next_posted (posting Mark c))
-        (if c.posts.has_round && not (all_answered (posting Mark c).posts) then (posting Mark c, Waiting) else (round_posted (posting Mark c), Worked))
-        (λ closed. marking_ends)
-        (λ more. either_then (c.posts.has_round && not (all_answered (posting Mark c).posts)) (posting Mark c, Waiting) (round_posted (posting Mark c), Worked)
-        (λ waits. by_old (posting Mark c, Waiting) has.kept (λ copying. never copying))
-        (λ answered. by_old (round_posted (posting Mark c), Worked) has.kept (λ copying. never copying)))
-
-    by_mark : (x : Progress × Objects × Bool) → ((a : Addr) → is_marked_old x.1.spaces a ≡ true → IsNamed name a) → Then (mark_object (posting Mark c) x)
-    by_mark (p, o, true) kept = dark_then p o kept
-    by_mark (p, o, false) kept = rounds_then
-
-    marks_then : Then (work Mark (posting Mark c))
-    marks_then = either_then c.progress.scanned_statics (mark_object (posting Mark c) (next_mark_step c.tree c.progress c.objects))
-        (record (posting Mark c) { progress = (statics_scanned c.progress c.objects c.statics).0; objects = (statics_scanned c.progress c.objects c.statics).1 }, Worked)
-        (λ scanned. by_mark (next_mark_step c.tree c.progress c.objects)
-        (step_named c.tree legal s typed name c.objects spaces refines.memory.heap has.kept c.progress c.objects.spaces.grey (sound.heap.marks refl).listed (oldest_cell c.objects c.objects.spaces.grey) refl))
-        (λ early. dark_then (statics_scanned c.progress c.objects c.statics).0 (statics_scanned c.progress c.objects c.statics).1
-        (all_named name c.statics c.objects spaces (entries_are name c.statics s.statics refines.memory.static_values) has.kept))
 
   -- ---- Allocate
 
@@ -292,10 +245,6 @@ module _ (c : MachineState) (s : State) (legal : IsLegal c.tree) (typed : IsType
               (copy_back c.tree Allocate c.posts.has_round c.limits.max_words c.progress c.objects.spaces sound.heap y d.0 was (λ e. absurd cc) x))
           | inr h ↦ back_copy c.tree Allocate c.posts.has_round c.limits.max_words looked.0 looked.1.spaces after y d.0 d.1 (address_after_cell c.objects.spaces.old c.progress.cursor) (ap (λ (z : Cell). z.other) h.5)
         ]
-
-    looks_then : Then (work Allocate (posting Allocate c))
-    looks_then = worked_then Allocate looked (by_old (record (posting Allocate c) { progress = looked.0; objects = looked.1 }, Worked) looked_kept (λ copying. looked_copies))
-        (by_old (next_posted (posting Allocate c)) has.kept (λ copying. has.copies refl))
 
   -- ---- Copy
 
@@ -326,15 +275,6 @@ module _ (c : MachineState) (s : State) (legal : IsLegal c.tree) (typed : IsType
               renames.normal.filled x.old.number y.number n.0 (renames.live x.old.number n.0 live n.1) (copy_other c.objects.spaces sound.heap.blocks.spaces y new x) (kept_is_live PreFlip c.objects.spaces y new),
             )
 
-    copies_then : Then (work Copy (posting Copy c))
-    copies_then = worked_then Copy filled (by_old (record (posting Copy c) { progress = filled.0; objects = filled.1 }, Worked) (λ a h. has.kept a (sym (marks_same a) ∙ h)) (λ copying. filled_copies)) posts_then
-
-  -- ---- the flips
-
-  flips_then : (x : Progress × List Value × Bool) → HasNames name (posting HeapFlip c) → Then (flip_values (posting HeapFlip c) x)
-  flips_then (p, statics, true) has = by_old (record (posting HeapFlip c) { progress = p; statics = statics }, Worked) has.kept (λ copying. never copying)
-  flips_then (p, statics, false) has = by_old (next_posted (posting HeapFlip c)) has.kept (λ copying. never copying)
-
   -- ---- Reclaim
 
   -- a cleared object was there before
@@ -351,29 +291,27 @@ module _ (c : MachineState) (s : State) (legal : IsLegal c.tree) (typed : IsType
           let was = after_in (store_copies false None) (λ z. refl) c.objects.spaces.new (record { number = at }) a e.0 e.1 in
           new_is c.objects.spaces a was.0 was.1
 
-  by_clear : (x : Progress × Objects × Bool) → ((a : Addr) → is_new x.1.spaces a ≡ true → IsNamed name a) → Then (clear_object (posting Reclaim c) x)
-  by_clear (p, o, true) kept = by_old (record (posting Reclaim c) { progress = p; objects = o }, Worked) kept (λ copying. never copying)
-  by_clear (p, o, false) kept = by_old (cycle_ended (posting Reclaim c), CycleDone) (λ a h. never h) (λ copying. never copying)
-
-  clears_then : HasNames name (posting Reclaim c) → Then (work Reclaim (posting Reclaim c))
-  clears_then has = by_clear (next_clear_step c.progress c.objects) (λ a h. has.kept a (cleared_new (found_in is_noted c.objects.spaces.new (c.objects.spaces.new.start + c.progress.cursor)) a h))
-
   -- ---- all
 
-  work_then : (x : Phase) → IsSound (posting x c) → HasNames name (posting x c) → Then (work x (posting x c))
-  work_then Idle sound has = opens_then sound
-  work_then Mark sound has = marks_then sound has
-  work_then Allocate sound has = looks_then sound has
-  work_then Copy sound has = copies_then sound has
-  work_then PreFlip sound has = by_old (next_posted (posting PreFlip c)) has.kept (λ copying. never copying)
-  work_then HeapFlip sound has = flips_then (next_flip_step c.progress c.objects c.statics) has
-  work_then ThreadFlip sound has = by_old (next_posted (posting ThreadFlip c)) has.kept (λ copying. never copying)
-  work_then Reclaim sound has = clears_then has
+  work_then : (x : Phase) (after : MachineState × Report) → IsWork c x after → IsSound (posting x c) → HasNames name (posting x c) → Then after
+  work_then _ after opens_cycle sound has = by_old after (λ a h. (let d = marked_cell c.objects.spaces a h in never (sym (sound.heap.copies.unmarked a d.0 d.1 refl) ∙ d.2))) (λ copying. never copying)
+  work_then _ after (scans_statics early) sound has =
+      by_old after (all_named name c.statics c.objects sound.heap.blocks.spaces (entries_are name c.statics s.statics refines.memory.static_values) has.kept) (λ copying. never copying)
+  work_then _ after (marks_object scanned step) sound has =
+      by_old after (step_named c.tree legal s typed name c.objects sound.heap.blocks.spaces refines.memory.heap has.kept c.progress c.objects.spaces.grey (sound.heap.marks refl).listed (oldest_cell c.objects c.objects.spaces.grey) refl) (λ copying. never copying)
+  work_then _ after (ends_marking scanned over closed) sound has =
+      by_old after has.kept (λ copying y new. (let d = new_cell c.objects.spaces y new in none_is_some d.0 (sym (none_is_new c.objects.spaces y (sound.heap.blocks.none_new refl)) ∙ d.1)))
+  work_then _ after (allocates_copy step) sound has = by_old after (looked_kept sound has) (λ copying. looked_copies sound has)
+  work_then _ after (ends_allocation over) sound has = by_old after has.kept (λ copying. has.copies refl)
+  work_then _ after (copies_word step) sound has = by_old after (λ a h. has.kept a (sym (marks_same sound has a) ∙ h)) (λ copying. filled_copies sound has)
+  work_then _ after (ends_copying over) sound has = posts_then sound has
+  work_then _ after (clears_object step) sound has = by_old after (λ a h. has.kept a (cleared_new (found_in is_noted c.objects.spaces.new (c.objects.spaces.new.start + c.progress.cursor)) a h)) (λ copying. never copying)
+  work_then _ after (ends_cycle over) sound has = by_old after (λ a h. never h) (λ copying. never copying)
+  work_then _ after _ sound has = by_old after has.kept (λ copying. never copying)
 
   -- after an event of the collector what is kept has a name
   pub collected_has : IsSound c → HasNames name c → Renames name (collect c).0 names → HasNames names (collect c).0
-  collected_has sound has =
-      either_then (all_seen c.posts) (work c.posts.posted_phase c) (c, Waiting) (λ seen. work_then c.posts.posted_phase sound has) (λ late. by_old (c, Waiting) has.kept has.copies)
+  collected_has sound has = by_cases c Then (λ seen after is. work_then c.posts.posted_phase after is sound has) (λ late. by_old (c, Waiting) has.kept has.copies)
 
 -- ---- acknowledgements
 
