@@ -21,7 +21,7 @@ use Rattle.collector.proofs.ThreadReferences.StorableValues.{monitor_is_storable
 use Rattle.simulation.specs.Refines.{AreFrames, Names, IsCell, IsValue, IsWord, null_reference, reference}
 use Rattle.simulation.proofs.Memory.MemoryModels.{MemoryModel}
 use Rattle.simulation.proofs.Representation.RootReferences.{roots_pass, thread_cut}
-use Rattle.simulation.proofs.CollectedHeap.VisibleNames.{FitsCollected, collected_reads, first_hold, named_passes, permanent_passes, named_held, named_small, named_whole, own_extends, collected_comparable, collected_name_null, collected_null_name, collected_same, collected_same_null, both_true, early_beside}
+use Rattle.simulation.proofs.CollectedHeap.VisibleNames.{FitsCollected, collected_reads, first_hold, named_passes, permanent_passes, named_held, named_small, named_whole, own_extends, collected_comparable, collected_name_null, collected_null_name, collected_same, collected_same_null, early_beside}
 use Rattle.simulation.proofs.CollectedHeap.HeapChanges.{collected_beside, collected_statics, first_fits, marked_refines, collected_static_storable, collected_static_stores, beside_heap, value_held}
 use Rattle.simulation.proofs.CollectedHeap.LiteralMonitors.{collected_literals}
 use Rattle.simulation.proofs.CollectedHeap.NewObjects.{collected_bears, collected_births, collected_refusals}
@@ -46,7 +46,7 @@ use Rattle.collector.proofs.ThreadReferences.AfterStores.{marked_first}
 use Rattle.collector.proofs.Copies.VisibleCopies.{has_words}
 use Rattle.collector.proofs.PhaseChanges.StaticFlips.{set_here_or_there}
 use Rattle.collector.proofs.HeapStores.StoredCells.{change_for}
-use Rattle.collector.proofs.Marks.MarksOfStores.{IsButMarked, value_mark_leaves, value_weakens}
+use Rattle.collector.proofs.Marks.MarksOfStores.{IsButMarked, value_mark_leaves, value_weakens, marked_kind}
 use Rattle.collector.proofs.HeapStores.StoreSoundness.{IsHeldObject, IsHeldValue, monitor_keeps, object_monitor_is, value_for_new, value_keeps, word_keeps}
 use Rattle.collector.proofs.HeapStores.ReachedCopies.{changed_by, close_is_beside}
 use Rattle.collector.proofs.Addresses.TagChanges.{monitor_keeps_tags, slot_keeps_tags}
@@ -58,6 +58,7 @@ use Rattle.simulation.proofs.Memory.ReferenceSlots.{IsLinked, is_reference_state
 use Rattle.simulation.proofs.CollectedHeap.RewrittenCells.{AreRewritten, IsNamedWord, contents_named, contents_rewritten}
 use Rattle.simulation.proofs.CollectedHeap.TwoCopies.{HasNamedWords, word_forwarded}
 use Rattle.simulation.proofs.CollectedHeap.ObjectChanges.{object_changes}
+use Rattle.std.proofs.lemmas.Bool.{and_from}
 
 -- ---- Stores of a thread to objects of a heap with a collector: values, words that are no references, and monitors.
 
@@ -110,10 +111,6 @@ late_early _ late early = never late
 slot_but_marked : (slot w : ℕ) (c d : Cell) → IsButMarked c d → IsButMarked (store_slot slot w c) (store_slot slot w d)
 slot_but_marked slot w c d (inl e) = inl (ap (store_slot slot w) e)
 slot_but_marked slot w c d (inr e) = inr (ap (store_slot slot w) e)
-
-but_marked_kind : (c d : Cell) → IsButMarked c d → d.kind ≡ c.kind
-but_marked_kind c d (inl e) = ap (λ (x : Cell). x.kind) e
-but_marked_kind c d (inr e) = ap (λ (x : Cell). x.kind) e
 
 but_marked_slots : (c d : Cell) → IsButMarked c d → d.slots ≡ c.slots
 but_marked_slots c d (inl e) = ap (λ (x : Cell). x.slots) e
@@ -235,10 +232,10 @@ module _ (tree : Tree) (legal : IsLegal tree) (words : ℕ) (h : Handshakes) (p 
       collected_storable = by_phase seat.phase refl
         where
           by_phase : (q : Phase) → seat.phase ≡ q → is_storable q o a slot v ≡ true
-          by_phase Mark e = both_true o.spaces.is_open (is_value_in_heap o v) (open_in_mark e) there
-          by_phase Copy e = both_true (is_value_in_heap o v) (other_has_slot o a slot) there alike
-          by_phase PreFlip e = both_true (is_value_in_heap o v) (other_has_slot o a slot) there alike
-          by_phase HeapFlip e = both_true (is_value_in_heap o v) (other_has_slot o a slot) there alike
+          by_phase Mark e = and_from o.spaces.is_open (is_value_in_heap o v) (open_in_mark e) there
+          by_phase Copy e = and_from (is_value_in_heap o v) (other_has_slot o a slot) there alike
+          by_phase PreFlip e = and_from (is_value_in_heap o v) (other_has_slot o a slot) there alike
+          by_phase HeapFlip e = and_from (is_value_in_heap o v) (other_has_slot o a slot) there alike
           by_phase ThreadFlip e = alike
           by_phase _ e = refl
 
@@ -289,7 +286,7 @@ module _ (tree : Tree) (legal : IsLegal tree) (words : ℕ) (h : Handshakes) (p 
           (cell_extends name marked.whole (own_extends tree words h p seat first all name q ss s marked) tree (f c) object refines)
 
       kind_is : here.0.kind ≡ c.kind
-      kind_is = but_marked_kind c here.0 here.2
+      kind_is = marked_kind c here.0 here.2
 
       linked_here : IsLinked tree here.0.kind object.contents
       linked_here = subst (λ k. IsLinked tree k object.contents) (sym kind_is) linked

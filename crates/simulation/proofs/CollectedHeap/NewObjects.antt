@@ -39,12 +39,13 @@ use Rattle.simulation.proofs.Representation.MoreNames.{cell_extends, value_exten
 use Rattle.simulation.proofs.RetainedWords.CycleNames.{marked_before_birth, new_before_birth}
 use Rattle.simulation.proofs.Memory.MemoryModels.{IsBirth}
 use Rattle.simulation.proofs.CollectedHeap.TwoCopies.{AreOldAndNew, copies_apart, copy_stays, forward_either, new_forward_itself, noted, noted_twin, old_forward, same_forward, twins_either, twins_forward, twins_late, twins_stay, twins_sym, words_not_last, copy_is_new, words_are_live}
-use Rattle.simulation.proofs.CollectedHeap.VisibleNames.{address_is, FitsCollected, cut_is, cut_names, first_hold, is_cut_name, named_passes, named_whole}
+use Rattle.simulation.proofs.CollectedHeap.VisibleNames.{FitsCollected, cut_is, cut_names, first_hold, is_cut_name, named_passes, named_whole}
 use Rattle.simulation.proofs.CollectedHeap.ObjectChanges.{born_number}
 use Rattle.simulation.proofs.Memory.NamedAddresses.{literal_beside}
 use Rattle.interpreter.specs.cil_model.declared.phases.Phase.TheVariants.{PreFlip, HeapFlip, ThreadFlip}
 use Rattle.interpreter.proofs.cil_model.SameLaws.{never}
 use Rattle.collector.proofs.Addresses.Tests.{new_is_live}
+use Rattle.collector.proofs.Births.HeapsAfterBirths.{same_address}
 
 -- ---- Where both copies of an object have all words, both are live.
 
@@ -131,7 +132,7 @@ module _ (tree : Tree) (words : ℕ) (h : Handshakes) (p : Progress) (seat : Sea
     IsNewly x = (x ≡ a.number) ⊎ ((x ≡ (forward o'.spaces a).number) × (is_live h.posted_phase o'.spaces (record { number = x }) ≡ true))
 
     newly_live : (x : ℕ) → IsNewly x → is_live h.posted_phase o'.spaces (record { number = x }) ≡ true
-    newly_live x (inl own) = subst (λ (b : Addr). is_live h.posted_phase o'.spaces b ≡ true) (address_is a (record { number = x }) (sym own)) own_live
+    newly_live x (inl own) = subst (λ (b : Addr). is_live h.posted_phase o'.spaces b ≡ true) (same_address a (record { number = x }) (sym own)) own_live
     newly_live x (inr other) = other.1
 
     -- an empty object lies there, where none lay
@@ -149,8 +150,8 @@ module _ (tree : Tree) (words : ℕ) (h : Handshakes) (p : Progress) (seat : Sea
         by_two false one = subst (λ (b : Addr). HasEmpty b) (sym (birth.alone one)) own_empty
 
     newly_empty : (x : ℕ) → IsNewly x → HasEmpty (record { number = x })
-    newly_empty x (inl own) = subst (λ (b : Addr). HasEmpty b) (address_is a (record { number = x }) (sym own)) own_empty
-    newly_empty x (inr other) = subst (λ (b : Addr). HasEmpty b) (address_is (forward o'.spaces a) (record { number = x }) (sym other.0)) other_empty
+    newly_empty x (inl own) = subst (λ (b : Addr). HasEmpty b) (same_address a (record { number = x }) (sym own)) own_empty
+    newly_empty x (inr other) = subst (λ (b : Addr). HasEmpty b) (same_address (forward o'.spaces a) (record { number = x }) (sym other.0)) other_empty
 
     -- so they had no names
     unnamed : {A : Type 0} (x : ℕ) (n : ObjectName) → IsNewly x → fits.whole x ≡ Some n → A
@@ -237,8 +238,8 @@ module _ (tree : Tree) (words : ℕ) (h : Handshakes) (p : Progress) (seat : Sea
 
       newly_forward : forward o'.spaces (record { number = x }) ≡ forward o'.spaces a
       newly_forward = elim new [
-        | inl own ↦ ap (forward o'.spaces) (address_is (record { number = x }) a own)
-        | inr other ↦ ap (forward o'.spaces) (address_is (record { number = x }) (forward o'.spaces a) other.0) ∙ other_forward
+        | inl own ↦ ap (forward o'.spaces) (same_address (record { number = x }) a own)
+        | inr other ↦ ap (forward o'.spaces) (same_address (record { number = x }) (forward o'.spaces a) other.0) ∙ other_forward
       ]
 
       twin_forward : forward o'.spaces a ≡ forward o'.spaces (record { number = y })
@@ -288,8 +289,8 @@ module _ (tree : Tree) (words : ℕ) (h : Handshakes) (p : Progress) (seat : Sea
     own_other x y is is' = elim (forward_either tree h.posted_phase h.has_round words p o'.spaces sound a) [
       | inl same ↦ inl (is ∙ ap (λ (b : Addr). b.number) (sym same) ∙ sym is')
       | inr copies ↦
-          inr (inl (ap (λ (b : Addr). other_of (cell_in o'.spaces.old b)) (address_is (record { number = x }) a is) ∙ noted tree h.posted_phase h.has_round words p o'.spaces sound a (forward o'.spaces a) copies
-          ∙ ap Some (address_is (forward o'.spaces a) (record { number = y }) (sym is'))))
+          inr (inl (ap (λ (b : Addr). other_of (cell_in o'.spaces.old b)) (same_address (record { number = x }) a is) ∙ noted tree h.posted_phase h.has_round words p o'.spaces sound a (forward o'.spaces a) copies
+          ∙ ap Some (same_address (forward o'.spaces a) (record { number = y }) (sym is'))))
     ]
 
     newly_one : (x y : ℕ) → IsNewly x → IsNewly y → (x ≡ y) ⊎ AreTwins o'.spaces x y

@@ -35,7 +35,7 @@ use Rattle.simulation.proofs.Memory.ReferenceSlots.{IsLinked, is_reference_state
 use Rattle.simulation.proofs.CollectedHeap.RewrittenCells.{AreRewritten, contents_rewritten}
 use Rattle.simulation.proofs.CollectedHeap.TwoCopies.{by_reference, AreOldAndNew, forward_is_null, same_forward, twins_either, twins_forward, twins_late}
 use Rattle.simulation.proofs.Memory.NamedAddresses.{born_renamed}
-use Rattle.std.proofs.lemmas.Bool.{eqb-true, eq-eqb}
+use Rattle.std.proofs.lemmas.Bool.{eqb-true, eq-eqb, ne_eqb, and_from}
 use Rattle.std.proofs.lemmas.Option.{same_Some}
 use Rattle.interpreter.specs.cil_model.declared.phases.Phase.TheVariants.{Copy, PreFlip, HeapFlip, ThreadFlip, Reclaim}
 use Rattle.interpreter.proofs.cil_model.SameLaws.{never, same_text_equal, same_text_itself}
@@ -44,6 +44,7 @@ use Rattle.interpreter.specs.instructions.barriers.Barriers.{are_comparable, are
 use Rattle.interpreter.proofs.object_memory.TwoSpaces.TwoBlocks.{apart, forward_null, old_is_cell}
 use Rattle.collector.proofs.Copies.VisibleCopies.{has_words}
 use Rattle.collector.proofs.HeapStores.ReachedCopies.{IsBeside, close_is_beside}
+use Rattle.collector.proofs.Births.HeapsAfterBirths.{same_address}
 
 -- ---- what fits
 
@@ -224,22 +225,6 @@ same_tests true b h k = sym (h refl)
 same_tests false true h k = k refl
 same_tests false false h k = refl
 
--- numbers that are apart
-apart_test : (x y : ℕ) → (x ≡ y → ⊥) → (x == y) ≡ false
-apart_test x y ne = by_test (x == y) refl
-  where
-    by_test : (t : Bool) → (x == y) ≡ t → (x == y) ≡ false
-    by_test true is = absurd (ne (eqb-true x y is))
-    by_test false is = is
-
--- both of two tests
-pub both_true : (x y : Bool) → x ≡ true → y ≡ true → (x && y) ≡ true
-both_true x y e e' = rw (e, e') refl
-
--- addresses of one number are one
-pub address_is : (a b : Addr) → a.number ≡ b.number → a ≡ b
-address_is a b e = ap (λ (k : ℕ). record { number = k }) e
-
 -- ---- phases
 
 -- where forwards are compared, old objects are read
@@ -301,7 +286,7 @@ module _ (tree : Tree) (words : ℕ) (h : Handshakes) (p : Progress) (seat : Sea
   collected_comparable a b is is' = by_test (compares_forwards seat.phase)
     where
       by_test : (t : Bool) → (if t then is_there o.spaces a && is_there o.spaces b else true) ≡ true
-      by_test true = both_true (is_there o.spaces a) (is_there o.spaces b) (reference_is_there a is) (reference_is_there b is')
+      by_test true = and_from (is_there o.spaces a) (is_there o.spaces b) (reference_is_there a is) (reference_is_there b is')
       by_test false = refl
 
   -- ---- objects
@@ -335,7 +320,7 @@ module _ (tree : Tree) (words : ℕ) (h : Handshakes) (p : Progress) (seat : Sea
     by_forwards : compares_forwards seat.phase ≡ true → ((forward m a).number == (forward m b).number) ≡ same_object n k
     by_forwards forwards =
         same_tests ((forward m a).number == (forward m b).number) (same_object n k)
-        (λ e. elim (same_forward tree h.posted_phase h.has_round words p m fits.sound (early_beside seat.phase h.posted_phase with_objects forwards) a b (address_is (forward m a) (forward m b) (eqb-true (forward m a).number (forward m b).number e))) [
+        (λ e. elim (same_forward tree h.posted_phase h.has_round words p m fits.sound (early_beside seat.phase h.posted_phase with_objects forwards) a b (same_address (forward m a) (forward m b) (eqb-true (forward m a).number (forward m b).number e))) [
           | inl same ↦ subst (λ x. same_object n x ≡ true) (one_name same) (same_object_itself n)
           | inr twins ↦ subst (λ x. same_object n x ≡ true) (twin_name twins) (same_object_itself n)
         ])
@@ -343,7 +328,7 @@ module _ (tree : Tree) (words : ℕ) (h : Handshakes) (p : Progress) (seat : Sea
       where
         one_forward : n ≡ k → forward m a ≡ forward m b
         one_forward same = elim (fits.heap.names.one a.number b.number k (named_whole tree words h p seat first all name o ss s fits a.number k (is ∙ ap Some same)) (named_whole tree words h p seat first all name o ss s fits b.number k is')) [
-          | inl equal ↦ ap (forward m) (address_is a b equal)
+          | inl equal ↦ ap (forward m) (same_address a b equal)
           | inr twins ↦ twins_forward tree h.posted_phase h.has_round words p m fits.sound a.number b.number twins
         ]
 
@@ -351,7 +336,7 @@ module _ (tree : Tree) (words : ℕ) (h : Handshakes) (p : Progress) (seat : Sea
     by_numbers : compares_forwards seat.phase ≡ false → (a.number == b.number) ≡ same_object n k
     by_numbers plain =
         same_tests (a.number == b.number) (same_object n k)
-        (λ e. subst (λ x. same_object n x ≡ true) (one_name (address_is a b (eqb-true a.number b.number e))) (same_object_itself n))
+        (λ e. subst (λ x. same_object n x ≡ true) (one_name (same_address a b (eqb-true a.number b.number e))) (same_object_itself n))
         (λ e. eq-eqb a.number b.number (one_number (same_object_equal n k e)))
       where
         one_number : n ≡ k → a.number ≡ b.number
@@ -385,18 +370,18 @@ module _ (tree : Tree) (words : ℕ) (h : Handshakes) (p : Progress) (seat : Sea
     forward_not_null : (forward m b).number ≡ (forward m null).number → ⊥
     forward_not_null e =
         not_null
-        (forward_is_null tree h.posted_phase h.has_round words p m fits.sound b (address_is (forward m b) (forward m null) e ∙ forward_null m fits.sound.blocks.spaces))
+        (forward_is_null tree h.posted_phase h.has_round words p m fits.sound b (same_address (forward m b) (forward m null) e ∙ forward_null m fits.sound.blocks.spaces))
 
     pub collected_null_name : are_same seat.phase o null b ≡ false
     collected_null_name = by_test (compares_forwards seat.phase)
       where
         by_test : (t : Bool) → ((if t then forward m null else null).number == (if t then forward m b else b).number) ≡ false
-        by_test true = apart_test (forward m null).number (forward m b).number (λ e. forward_not_null (sym e))
-        by_test false = apart_test 0 b.number (λ e. not_null (address_is b null (sym e)))
+        by_test true = ne_eqb (forward m null).number (forward m b).number (λ e. forward_not_null (sym e))
+        by_test false = ne_eqb 0 b.number (λ e. not_null (same_address b null (sym e)))
 
     pub collected_name_null : are_same seat.phase o b null ≡ false
     collected_name_null = by_test (compares_forwards seat.phase)
       where
         by_test : (t : Bool) → ((if t then forward m b else b).number == (if t then forward m null else null).number) ≡ false
-        by_test true = apart_test (forward m b).number (forward m null).number forward_not_null
-        by_test false = apart_test b.number 0 (λ e. not_null (address_is b null e))
+        by_test true = ne_eqb (forward m b).number (forward m null).number forward_not_null
+        by_test false = ne_eqb b.number 0 (λ e. not_null (same_address b null e))

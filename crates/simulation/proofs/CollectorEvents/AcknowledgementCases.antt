@@ -1,15 +1,16 @@
 -- What an acknowledgement does, case by case: nothing, or a round is answered, with marks or without, or a phase is acknowledged, with a flip or without.
-use Rattle.std.proofs.Common.{◌≡◌, ℕ, Bool, true, false, not, ◌&&◌, ◌||◌, if◌then◌else◌, List, Option, Some, None, slice_get, slice_set, refl, sym, ap, ◌∙◌, subst}
+use Rattle.std.proofs.Common.{◌≡◌, ℕ, Bool, true, false, not, ◌&&◌, if◌then◌else◌, List, Option, Some, None, slice_get, slice_set, refl, sym, ap, ◌∙◌, subst}
 use Rattle.std.specs.Option.{option_map_or}
 use Rattle.interpreter.specs.cil_model.declared.phases.Phase.TheVariants.{ThreadFlip}
 use Rattle.interpreter.specs.object_memory.Objects.{Objects}
 use Rattle.interpreter.specs.threads_monitors.declared.threads.Thread.{Thread}
-use Rattle.interpreter.proofs.cil_model.SameLaws.{never}
 use Rattle.collector.specs.Holds.{is_marking}
 use Rattle.collector.specs.phase_handshake.Handshakes.{Handshakes, acknowledge_phase, is_open_to, is_phase, seat_after, seat_of}
 use Rattle.collector.specs.phase_handshake.declared.posts.Seat.{Seat}
 use Rattle.simulation.specs.CollectorSteps.{answers_round, flips_frames, objects_after, threads_after, with_acknowledgement, with_flipped, with_thread_marked}
 use Rattle.simulation.specs.MachineStates.{MachineState}
+use Rattle.std.proofs.lemmas.Bool.{or_parts}
+use Rattle.std.proofs.Math.Bool.{and-false}
 
 -- the posts once a thread with this seat has answered
 abbrev pub posts_after : MachineState → ℕ → Seat → Handshakes
@@ -26,16 +27,6 @@ pub record AcknowledgementCases (c : MachineState) (t : ℕ) (P : MachineState �
       P (record c { posts = posts_after c t seat })
   pub flips : (seat : Seat) → seat_of c.posts t ≡ Some seat → is_open_to c.posts.posted_phase c.posts.has_round seat ≡ true → is_phase seat.phase c.posts.posted_phase ≡ false → is_phase c.posts.posted_phase ThreadFlip ≡ true →
       P (record c { threads = with_flipped c.objects c.threads t (slice_get c.threads t); posts = posts_after c t seat })
-
--- nothing passes both a test and one that fails
-no_second : (x : Bool) → (x && false) ≡ false
-no_second true = refl
-no_second false = refl
-
--- where neither of two is so, the first isn't
-first_fails : (x y : Bool) → (x || y) ≡ false → x ≡ false
-first_fails true y e = never (sym e)
-first_fails false y e = refl
 
 module _ (c : MachineState) (t : ℕ) (P : MachineState → Type 0) (cases : AcknowledgementCases c t P) where
   -- the machine state by its parts
@@ -56,7 +47,7 @@ module _ (c : MachineState) (t : ℕ) (P : MachineState → Type 0) (cases : Ack
   seatless : seat_of c.posts t ≡ None → P (with_acknowledgement c t).0
   seatless none =
       of_parts c.threads c.posts c.objects
-      (threads_by false (ap (λ o. is_phase c.posts.posted_phase ThreadFlip && option_map_or (λ (s : Seat). not (is_phase s.phase c.posts.posted_phase)) o false) none ∙ no_second (is_phase c.posts.posted_phase ThreadFlip)))
+      (threads_by false (ap (λ o. is_phase c.posts.posted_phase ThreadFlip && option_map_or (λ (s : Seat). not (is_phase s.phase c.posts.posted_phase)) o false) none ∙ and-false (is_phase c.posts.posted_phase ThreadFlip)))
       (ap (λ o. option_map_or (λ (s : Seat). if is_open_to c.posts.posted_phase c.posts.has_round s then posts_after c t s else c.posts) o c.posts) none)
       (objects_by false
       (ap (λ o. option_map_or (is_open_to c.posts.posted_phase c.posts.has_round) o false && (is_marking c.posts.posted_phase && option_map_or (λ (s : Seat). is_phase s.phase c.posts.posted_phase) (seat_of c.posts t) false)) none))
@@ -79,9 +70,9 @@ module _ (c : MachineState) (t : ℕ) (P : MachineState → Type 0) (cases : Ack
     -- nothing is open
     closed_to : is_open_to c.posts.posted_phase c.posts.has_round seat ≡ false → P (with_acknowledgement c t).0
     closed_to shut =
-        let seen = first_fails (not (is_phase seat.phase c.posts.posted_phase)) (c.posts.has_round && not seat.answered) shut in
+        let seen = (or_parts (not (is_phase seat.phase c.posts.posted_phase)) (c.posts.has_round && not seat.answered) shut).0 in
         of_parts c.threads c.posts c.objects
-        (threads_by false (flips_is ∙ ap (λ x. is_phase c.posts.posted_phase ThreadFlip && x) seen ∙ no_second (is_phase c.posts.posted_phase ThreadFlip)))
+        (threads_by false (flips_is ∙ ap (λ x. is_phase c.posts.posted_phase ThreadFlip && x) seen ∙ and-false (is_phase c.posts.posted_phase ThreadFlip)))
         (posts_by false shut)
         (objects_by false (answers_is false shut))
         cases.nothing
@@ -91,20 +82,20 @@ module _ (c : MachineState) (t : ℕ) (P : MachineState → Type 0) (cases : Ack
       of_round : (b : Bool) → is_marking c.posts.posted_phase ≡ b → is_phase seat.phase c.posts.posted_phase ≡ true → P (with_acknowledgement c t).0
       of_round true marking seen =
           of_parts c.threads (posts_after c t seat) (with_thread_marked c.objects (slice_get c.threads t))
-          (threads_by false (flips_is ∙ ap (λ x. is_phase c.posts.posted_phase ThreadFlip && not x) seen ∙ no_second (is_phase c.posts.posted_phase ThreadFlip)))
+          (threads_by false (flips_is ∙ ap (λ x. is_phase c.posts.posted_phase ThreadFlip && not x) seen ∙ and-false (is_phase c.posts.posted_phase ThreadFlip)))
           (posts_by true opened)
           (objects_by true (answers_is true opened ∙ ap (λ x. x && is_phase seat.phase c.posts.posted_phase) marking ∙ seen))
           (cases.marks seat here opened seen marking)
       of_round false marking seen =
           of_parts c.threads (posts_after c t seat) c.objects
-          (threads_by false (flips_is ∙ ap (λ x. is_phase c.posts.posted_phase ThreadFlip && not x) seen ∙ no_second (is_phase c.posts.posted_phase ThreadFlip)))
+          (threads_by false (flips_is ∙ ap (λ x. is_phase c.posts.posted_phase ThreadFlip && not x) seen ∙ and-false (is_phase c.posts.posted_phase ThreadFlip)))
           (posts_by true opened)
           (objects_by false (answers_is true opened ∙ ap (λ x. x && is_phase seat.phase c.posts.posted_phase) marking))
           (cases.answers seat here opened seen marking)
 
       -- the phase
       unmarked : is_phase seat.phase c.posts.posted_phase ≡ false → objects_after c t ≡ c.objects
-      unmarked late = objects_by false (answers_is true opened ∙ ap (λ x. is_marking c.posts.posted_phase && x) late ∙ no_second (is_marking c.posts.posted_phase))
+      unmarked late = objects_by false (answers_is true opened ∙ ap (λ x. is_marking c.posts.posted_phase && x) late ∙ and-false (is_marking c.posts.posted_phase))
 
       of_phase : (b : Bool) → is_phase c.posts.posted_phase ThreadFlip ≡ b → is_phase seat.phase c.posts.posted_phase ≡ false → P (with_acknowledgement c t).0
       of_phase true flip late =
@@ -135,3 +126,13 @@ module _ (c : MachineState) (t : ℕ) (P : MachineState → Type 0) (cases : Ack
   -- what is so in each case is so after an acknowledgement
   pub after_acknowledgement : P (with_acknowledgement c t).0
   after_acknowledgement = by_seat (seat_of c.posts t) refl
+
+-- no acknowledgement posts a phase
+pub acknowledged_posted : (c : MachineState) (t : ℕ) → (with_acknowledgement c t).0.posts.posted_phase ≡ c.posts.posted_phase
+acknowledged_posted c t = after_acknowledgement c t (λ (x : MachineState). x.posts.posted_phase ≡ c.posts.posted_phase) (record {
+  nothing = refl;
+  marks = λ seat here opened seen marking. refl;
+  answers = λ seat here opened seen other. refl;
+  continues = λ seat here opened late later. refl;
+  flips = λ seat here opened late flip. refl;
+})

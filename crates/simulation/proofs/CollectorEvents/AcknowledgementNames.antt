@@ -7,13 +7,13 @@ use Rattle.interpreter.specs.cil_model.declared.phases.Phase.TheVariants.{Thread
 use Rattle.interpreter.specs.cil_model.declared.reports.End.{End}
 use Rattle.interpreter.specs.cil_model.declared.trees.Tree.{Tree}
 use Rattle.interpreter.specs.reference_machine.Values.{ObjectName, Value as StateValue}
-use Rattle.interpreter.specs.reference_machine.States.{Frame as StateFrame, HeapObject, State}
+use Rattle.interpreter.specs.reference_machine.States.{Frame as StateFrame, State}
 use Rattle.interpreter.specs.object_memory.declared.addresses.Addr.{Addr}
 use Rattle.interpreter.specs.object_memory.declared.values.Value.{Value}
 use Rattle.interpreter.specs.object_memory.declared.values.Value.TheVariants.{Ref}
-use Rattle.interpreter.specs.object_memory.Cells.{Cell, cell_in, null}
+use Rattle.interpreter.specs.object_memory.Cells.{null}
 use Rattle.interpreter.specs.object_memory.Objects.{Objects}
-use Rattle.interpreter.specs.object_memory.Spaces.{AreSpaces, Spaces, forward, other_of}
+use Rattle.interpreter.specs.object_memory.Spaces.{Spaces, forward}
 use Rattle.interpreter.proofs.object_memory.TwoSpaces.TwoBlocks.{forward_null}
 use Rattle.interpreter.specs.threads_monitors.Frames.{Frame, Frames}
 use Rattle.interpreter.specs.threads_monitors.Roots.{frame_with_references, with_reference, with_references, roots}
@@ -25,21 +25,20 @@ use Rattle.collector.specs.MarkSteps.{with_all_marked}
 use Rattle.collector.specs.phase_handshake.Handshakes.{Handshakes, is_phase, IsClose, is_open_to, phase_number, seat_after, seat_of}
 use Rattle.collector.proofs.phase_handshake.Closeness.{same_phase, answered_close}
 use Rattle.collector.proofs.Copies.VisibleCopies.{has_words, forward_is_new, has_copies}
-use Rattle.collector.proofs.Marks.MarkChanges.{AreDarker, IsDarker, stays_there, AreDarker-same}
-use Rattle.collector.proofs.Marks.MarkedHeaps.{AreDarker-with_all_marked, HasNotBegun-with_all_marked, IsSoundHeap-with_all_marked, with_all_marked-noted, with_all_marked-pass}
+use Rattle.collector.proofs.Marks.MarkChanges.{AreDarker, AreDarker-same}
+use Rattle.collector.proofs.Marks.MarkedHeaps.{AreDarker-with_all_marked, HasNotBegun-with_all_marked, IsSoundHeap-with_all_marked, with_all_marked-noted, with_all_marked-pass, with_all_marked-literals}
 use Rattle.simulation.specs.Agreement.{Agree}
 use Rattle.simulation.specs.CollectorSteps.{status_flipped, thread_flipped, with_acknowledgement, with_flipped, with_thread_marked}
 use Rattle.simulation.specs.MachineStates.{MachineState}
 use Rattle.simulation.specs.Sound.{IsSound, AreSeated}
-use Rattle.simulation.specs.Refines.{Names, AreTwins, IsValue, int32, int64, native, null_reference, reference, IsOfContents, IsMonitor, IsCell, IsBornAt, IsHeap, IsObject, IsFrame, AreFrames, StatusRefines, IsThread, Represents, RefinesUnder}
+use Rattle.simulation.specs.Refines.{Names, IsValue, int32, int64, native, null_reference, reference, IsObject, IsFrame, AreFrames, StatusRefines, IsThread, Represents, RefinesUnder}
 use Rattle.simulation.proofs.ListLaws.AgreeingLists.{agree_changed}
 use Rattle.simulation.proofs.CollectorEvents.AcknowledgementCases.{after_acknowledgement, posts_after}
 use Rattle.simulation.proofs.Representation.NormalContents.{normal_names, sound_is_held, thread_is_live}
 use Rattle.simulation.proofs.Representation.NormalNames.{IsNormal, normal_forward}
-use Rattle.simulation.proofs.CollectorEvents.RootMarks.{marks_keep_literals, thread_marked, thread_values, all_of_listed, listed_of_all}
-use Rattle.simulation.proofs.Memory.NamedAddresses.{literal_beside}
+use Rattle.simulation.proofs.CollectorEvents.RootMarks.{thread_marked, thread_values, all_of_listed, listed_of_all}
 use Rattle.std.specs.Option.{option_map_or}
-use Rattle.std.proofs.lemmas.Bool.{eq-eqb}
+use Rattle.std.proofs.lemmas.Bool.{eq-eqb, cases_eq}
 use Rattle.std.proofs.lemmas.Option.{same_Some}
 use Rattle.interpreter.specs.cil_model.declared.phases.Phase.{Phase}
 use Rattle.interpreter.specs.reference_machine.Cycles.{phase_after}
@@ -53,7 +52,8 @@ use Rattle.collector.specs.phase_handshake.declared.posts.Seat.{Seat}
 use Rattle.collector.proofs.ThreadReferences.MarkingPhases.{held_again, may_hold_marked, phase_held, stays_held, stays_held-static}
 use Rattle.collector.proofs.Addresses.Tests.{value_weakens}
 use Rattle.simulation.proofs.Representation.FrameReferences.{frames_replaced, roots_pass, roots_passed}
-use Rattle.simulation.proofs.Threads.Seats.{other_seat, own_seat, same_or_other, seat_cases, set_other}
+use Rattle.simulation.proofs.Threads.Seats.{other_seat, own_seat, seat_cases, set_other}
+use Rattle.simulation.proofs.CollectorEvents.RepresentedObjects.{refines_shown, darker_shows}
 
 -- ---- An acknowledgement keeps a machine sound, in each phase that is posted.
 
@@ -105,7 +105,7 @@ module _ (c : MachineState) (sound : IsSound c) (t : ℕ) (seat : Seat) (here : 
 
   -- the same threads are live
   seated_then : (threads : List Thread) → ((n : ℕ) → is_live_at threads n ≡ is_live_at c.threads n) → AreSeated posts threads
-  seated_then threads same = record { close = answered_close c.posts sound.seated.close t seat here opened; live = λ n. same n ∙ sound.seated.live n ∙ seats n (same_or_other n t) }
+  seated_then threads same = record { close = answered_close c.posts sound.seated.close t seat here opened; live = λ n. same n ∙ sound.seated.live n ∙ seats n (cases_eq n t) }
     where
       seats : (n : ℕ) → (n ≡ t) ⊎ (n ≡ t → ⊥) → is_some (seat_of c.posts n) ≡ is_some (seat_of posts n)
       seats n (inl is) =
@@ -249,7 +249,7 @@ module _ (c : MachineState) (sound : IsSound c) (t : ℕ) (seat : Seat) (here : 
       own_gone none = ap (λ o. slice_get (with_flipped c.objects c.threads t o) t) none ∙ none
 
       live_then : (n : ℕ) → is_live_at flipped n ≡ is_live_at c.threads n
-      live_then n = by_index (same_or_other n t)
+      live_then n = by_index (cases_eq n t)
         where
           same_status : (s : ThreadStatus) (left : ℕ) → is_live (thread_flipped c.objects (record { thread_status = s; steps_left = left })) ≡ is_live (record { thread_status = s; steps_left = left })
           same_status (Live fs) left = refl
@@ -304,54 +304,6 @@ acknowledgement_sound c t sound =
       flips = λ seat here opened late flip. flips_sound c sound t seat here opened late flip;
     })
 
--- ---- marks
-
-module _ (tree : Tree) (name : Names) (o after : Objects) (s : State) (spaces : AreSpaces o.spaces) (darker : AreDarker o.spaces after.spaces) (literals : after.literals ≡ o.literals) where
-  -- each old object has the other copy that it had
-  other_stays : (a : Addr) → other_of (cell_in after.spaces.old a) ≡ other_of (cell_in o.spaces.old a)
-  other_stays a = by_cell (cell_in o.spaces.old a) (cell_in after.spaces.old a) refl refl
-    where
-      by_cell : (x y : Option Cell) → cell_in o.spaces.old a ≡ x → cell_in after.spaces.old a ≡ y → other_of y ≡ other_of x
-      by_cell None None was is = refl
-      by_cell None (Some d) was is = none_is_some _ (sym was ∙ (darker.was a d is).1)
-      by_cell (Some c) y was is =
-          let d = darker.kept a c was in
-          ap other_of (sym is ∙ d.1) ∙ d.2.other
-
-  twins_before : (a b : ℕ) → AreTwins after.spaces a b → AreTwins o.spaces a b
-  twins_before a b (inl h) = inl (sym (other_stays (record { number = a })) ∙ h)
-  twins_before a b (inr h) = inr (sym (other_stays (record { number = b })) ∙ h)
-
-  twins_then : (a b : ℕ) → AreTwins o.spaces a b → AreTwins after.spaces a b
-  twins_then a b (inl h) = inl (other_stays (record { number = a }) ∙ h)
-  twins_then a b (inr h) = inr (other_stays (record { number = b }) ∙ h)
-
-  born_then : (a n : ℕ) → IsBornAt tree name o s a n → IsBornAt tree name after s a n
-  born_then a n h =
-      let d = stays_there o.spaces after.spaces darker spaces (record { number = a }) h.cell h.lies in
-      record { no_literal = h.no_literal; cell = d.0; lies = d.1; object = h.object; is = h.is; refines = cell_then h.cell d.0 d.2 h.object h.refines }
-    where
-      cell_then : (c d : Cell) → IsDarker c d → (object : HeapObject) → IsCell tree name c object → IsCell tree name d object
-      cell_then c d dark object k = record {
-        contents = subst (λ x. IsOfContents tree name x d.slots object.contents object.thread) (sym dark.kind) (subst (λ x. IsOfContents tree name c.kind x object.contents object.thread) (sym dark.slots) k.contents);
-        monitor = subst (λ x. IsMonitor x object.monitor) (sym dark.monitor) k.monitor;
-      }
-
-  -- the heap is the same, but for marks
-  pub heap_marked : IsHeap tree name o s → IsHeap tree name after s
-  heap_marked h = record {
-    null_unnamed = h.null_unnamed;
-    small = h.small;
-    names = record { one = λ a b n is also. one_then a b (h.names.one a b n is also); twins = λ a b n k is also are. h.names.twins a b n k is also (twins_before a b are) };
-    born = λ a n named. born_then a n (h.born a n named);
-    literals = λ a characters named. literal_beside tree o after s s literals refl a characters (h.literals a characters named);
-    each_literal = h.each_literal;
-  }
-    where
-      one_then : (a b : ℕ) → (a ≡ b) ⊎ AreTwins o.spaces a b → (a ≡ b) ⊎ AreTwins after.spaces a b
-      one_then a b (inl same) = inl same
-      one_then a b (inr are) = inr (twins_then a b are)
-
 -- ---- flips
 
 module _ (name : Names) (g : Addr → Addr) (null_stays : g null ≡ null) (named : (a : Addr) (n : ObjectName) → name a.number ≡ Some n → name (g a).number ≡ Some n) where
@@ -402,14 +354,11 @@ module _ (c : MachineState) (s : State) (name : Names) (sound : IsSound c) (refi
   beside_posts new_posts = record { memory = refines.memory; threads = refines.threads }
 
   marks_refine : (new_posts : Handshakes) (thread : Option Thread) → RefinesUnder name (record c { posts = new_posts; objects = with_thread_marked c.objects thread }) s
-  marks_refine new_posts thread = subst (λ o. RefinesUnder name (record c { posts = new_posts; objects = o }) s) (sym (thread_marked c.objects thread)) (record {
-    memory = record {
-      heap = heap_marked c.tree name c.objects (with_all_marked c.objects (thread_values thread)) s sound.heap.blocks.spaces (AreDarker-with_all_marked (thread_values thread) c.objects sound.heap.blocks.spaces) (marks_keep_literals (thread_values thread) c.objects) refines.memory.heap;
-      static_values = refines.memory.static_values;
-      printed_is = refines.memory.printed_is;
-    };
-    threads = refines.threads;
-  })
+  marks_refine new_posts thread = subst (λ o. RefinesUnder name (record c { posts = new_posts; objects = o }) s) (sym (thread_marked c.objects thread))
+      (let spaces = sound.heap.blocks.spaces in
+      let darker = AreDarker-with_all_marked (thread_values thread) c.objects spaces in
+      let marks = refines_shown name c s refines (with_all_marked c.objects (thread_values thread)) (darker_shows name c.objects (with_all_marked c.objects (thread_values thread)) spaces (with_all_marked-literals (thread_values thread) c.objects) darker) in
+      record { memory = marks.memory; threads = marks.threads })
 
   module _ (normal : IsNormal c.posts.posted_phase c.objects.spaces name) (flip : is_phase c.posts.posted_phase ThreadFlip ≡ true) where
     -- the forward has the name of what it forwards

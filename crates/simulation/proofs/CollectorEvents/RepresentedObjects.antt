@@ -13,7 +13,7 @@ use Rattle.interpreter.specs.object_memory.declared.addresses.Addr.{Addr}
 use Rattle.interpreter.specs.object_memory.declared.values.Value.{Value}
 use Rattle.interpreter.specs.object_memory.Cells.{Cell, cell_in, size}
 use Rattle.interpreter.specs.object_memory.Objects.{Objects, object_cell}
-use Rattle.interpreter.specs.object_memory.Spaces.{Spaces, clear, first_of, found_in, is_noted, open_cycle, other_of}
+use Rattle.interpreter.specs.object_memory.Spaces.{Spaces, clear, first_of, found_in, is_noted, open_cycle, other_of, AreSpaces}
 use Rattle.interpreter.specs.instructions.barriers.Barriers.{forward_value}
 use Rattle.collector.specs.Phases.{is_live, is_read}
 use Rattle.collector.specs.Soundness.{IsSoundHeap}
@@ -133,7 +133,7 @@ opened_shows name o words none = record {
 }
 
 -- an object that is marked has the same other copy
-darker_other : (m m' : Spaces) → AreDarker m m' → (a : Addr) → other_of (cell_in m'.old a) ≡ other_of (cell_in m.old a)
+pub darker_other : (m m' : Spaces) → AreDarker m m' → (a : Addr) → other_of (cell_in m'.old a) ≡ other_of (cell_in m.old a)
 darker_other m m' darker a = by_cells (cell_in m.old a) (cell_in m'.old a) refl refl
   where
     by_cells : (x y : Option Cell) → cell_in m.old a ≡ x → cell_in m'.old a ≡ y → other_of y ≡ other_of x
@@ -142,11 +142,11 @@ darker_other m m' darker a = by_cells (cell_in m.old a) (cell_in m'.old a) refl 
     by_cells (Some c) y was is = let d = darker.kept a c was in ap other_of (sym is ∙ d.1) ∙ d.2.other
 
 -- which changes nothing that is shown
-pub darker_shows : (name : Names) (o o' : Objects) (has_round : Bool) (tree : Tree) (words : ℕ) (p : Progress) → IsSoundHeap tree Mark has_round words p o.spaces → o'.literals ≡ o.literals → AreDarker o.spaces o'.spaces → ShowsNames name o o'
-darker_shows name o o' has_round tree words p sound literals darker = record {
+pub darker_shows : (name : Names) (o o' : Objects) → AreSpaces o.spaces → o'.literals ≡ o.literals → AreDarker o.spaces o'.spaces → ShowsNames name o o'
+darker_shows name o o' spaces literals darker = record {
   literals = literals;
   shows = λ a n e c lies.
-      (let d = stays_there o.spaces o'.spaces darker sound.blocks.spaces (record { number = a }) c lies in
+      (let d = stays_there o.spaces o'.spaces darker spaces (record { number = a }) c lies in
       (d.0, d.1, record { kind = d.2.kind; slots = d.2.slots; monitor = d.2.monitor }));
   stay = λ a b n k ea eb twins. twins_by o.spaces o'.spaces (darker_other o.spaces o'.spaces darker) a b twins;
   were = λ a b n k ea eb twins. twins_by o'.spaces o.spaces (λ x. sym (darker_other o.spaces o'.spaces darker x)) a b twins;
@@ -248,7 +248,7 @@ retired_shows name o has_round tree words p sound normal over = record {
 module _ (name : Names) (c : MachineState) (s : State) where
   -- objects are marked
   dark_refines : IsSound (posting Mark c) → (o : Objects) → o.literals ≡ c.objects.literals → AreDarker c.objects.spaces o.spaces → RefinesUnder name c s → RefinesUnder name (record c { objects = o }) s
-  dark_refines sound o literals darker refines = refines_shown name c s refines o (darker_shows name c.objects o c.posts.has_round c.tree c.limits.max_words c.progress sound.heap literals darker)
+  dark_refines sound o literals darker refines = refines_shown name c s refines o (darker_shows name c.objects o sound.heap.blocks.spaces literals darker)
 
   -- what is represented doesn't depend on the posts and the progress
   beside : (d : MachineState) → RefinesUnder name d s → (h : Handshakes) (p : Progress) → RefinesUnder name (record d { posts = h; progress = p }) s

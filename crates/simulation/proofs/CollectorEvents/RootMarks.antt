@@ -1,5 +1,5 @@
 -- The marks of a thread that acknowledges a round are those of a list of references, and leave the monitors of literals.
-use Rattle.std.proofs.Common.{◌≡◌, true, List, [], ◌∷◌, map, Option, Some, None, refl, inl, inr, ◌∙◌, subst}
+use Rattle.std.proofs.Common.{◌≡◌, true, List, [], ◌∷◌, map, Option, Some, None, refl, inl, inr, subst}
 use Rattle.std.specs.Prelude.{All}
 use Rattle.std.proofs.lemmas.List.Elements.{All-cons, All-head, All-nil, All-tail}
 use Rattle.interpreter.specs.object_memory.declared.addresses.Addr.{Addr}
@@ -38,15 +38,6 @@ status_marked o (Ended e) = refl
 pub thread_marked : (o : Objects) (x : Option Thread) → with_thread_marked o x ≡ with_all_marked o (thread_values x)
 thread_marked o None = refl
 thread_marked o (Some x) = status_marked o x.thread_status
-
--- the monitors of literals stay
-one_keeps : (o : Objects) (v : Value) → (with_marked o v).literals ≡ o.literals
-one_keeps o (Ref a) = refl
-one_keeps o _ = refl
-
-pub marks_keep_literals : (vs : List Value) (o : Objects) → (with_all_marked o vs).literals ≡ o.literals
-marks_keep_literals [] o = refl
-marks_keep_literals (v ∷ vs) o = marks_keep_literals vs (with_marked o v) ∙ one_keeps o v
 
 -- what is so of all that is listed is so of all these, and the other way
 pub all_of_listed : (test : Test) (list : List Addr) → ((a : Addr) → IsListed list a → test a ≡ true) → All (ValuePasses test) (map Ref list)

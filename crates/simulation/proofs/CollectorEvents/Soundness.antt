@@ -1,6 +1,6 @@
 -- Events of the collector keep a machine sound, in each phase that is posted.
 use Rattle.std.proofs.Common.{◌≤◌, ◌≡◌, ◌≢◌, ℕ, Bool, true, false, List, [], ◌∷◌, map, Option, Some, None, is_some, option_map, slice_get, refl, sym, ap, ◌∙◌, subst}
-use Rattle.std.specs.Prelude.{◌&&◌, not, option_and_then}
+use Rattle.std.specs.Prelude.{not, option_and_then}
 use Rattle.std.proofs.lemmas.Option.{same_Some, slice_get-map}
 use Rattle.interpreter.specs.cil_model.declared.trees.Tree.{Tree}
 use Rattle.interpreter.specs.cil_model.declared.phases.Phase.{Phase}
@@ -43,6 +43,7 @@ use Rattle.collector.proofs.PhaseChanges.FlipPhases.{flip_posted}
 use Rattle.collector.proofs.PhaseChanges.ReclaimWork.{cleared_sound, cleared_tests, retired_sound}
 use Rattle.collector.proofs.ThreadReferences.FlipPhases.{end_keeps_held, flip_keeps_held}
 use Rattle.simulation.proofs.CollectorEvents.EventCases.{IsWork, allocates_copy, by_cases, clears_object, copies_word, ends_allocation, ends_copying, ends_cycle, ends_heap_flip, ends_marking, flips_static, marks_object, opens_cycle, posting, posts_heap_flip, posts_reclaim, posts_round, scans_statics, waits_for_round}
+use Rattle.std.proofs.Math.Bool.{and-false}
 
 -- ---- seats
 
@@ -115,11 +116,7 @@ module _ (c : MachineState) (sound : IsSound c) (seen : all_seen c.posts ≡ tru
 
 -- until a thread flips its frames it may hold what is live
 live_held : (h : Handshakes) (m : Spaces) (seat : Seat) (a : Addr) → is_flipping h.posted_phase ≡ false → is_marking h.posted_phase ≡ false → is_live h.posted_phase m a ≡ true → may_hold h m seat a ≡ true
-live_held h m seat a early other live = may_hold_any h m seat a (rw early (none_both (is_flipping seat.phase))) (rw other refl) live
-  where
-    none_both : (x : Bool) → (x && false) ≡ false
-    none_both true = refl
-    none_both false = refl
+live_held h m seat a early other live = may_hold_any h m seat a (rw early (and-false (is_flipping seat.phase))) (rw other refl) live
 
 -- ---- Idle: a cycle opens
 

@@ -1,21 +1,17 @@
 -- In a run each cycle of the collector has a bounded number of working events.
-use Rattle.std.proofs.Common.{◌≡◌, ◌≢◌, ◌⊎◌, inl, inr, ◌+◌, ◌*◌, ◌≤◌, ℕ, suc, max, Bool, true, false, if◌then◌else◌, IsTrue, List, [], ◌∷◌, ◌++◌, reverse, length, Option, Some, None, option_and_then, option_map, slice_get, refl, sym, ap, ◌∙◌, subst, append_assoc, append-nil, arith}
+use Rattle.std.proofs.Common.{◌≡◌, ◌≢◌, ◌⊎◌, inl, inr, ◌+◌, ◌*◌, ◌≤◌, ℕ, suc, max, Bool, true, false, if◌then◌else◌, IsTrue, List, [], ◌∷◌, ◌++◌, reverse, length, Some, None, refl, sym, ap, ◌∙◌, subst, append_assoc, append-nil, arith}
 use Rattle.std.specs.List.{zip}
 use Rattle.std.specs.Option.{option_map_or}
 use Rattle.std.proofs.Math.Nat.{max-eq_left}
 use Rattle.std.proofs.lemmas.List.{reverse-append}
-use Rattle.std.proofs.lemmas.Option.{same_Some}
 use Rattle.interpreter.specs.cil_model.declared.events.Event.{Event}
 use Rattle.interpreter.specs.cil_model.declared.events.Event.TheVariants.{Step, Ack, Gc}
 use Rattle.interpreter.specs.cil_model.declared.limits.Limits.{Limits}
 use Rattle.interpreter.specs.cil_model.declared.phases.Phase.{Phase}
 use Rattle.interpreter.specs.cil_model.declared.phases.Phase.TheVariants.{Idle}
 use Rattle.interpreter.specs.cil_model.declared.reports.Report.{Report}
-use Rattle.interpreter.specs.cil_model.declared.trees.Method.{Method}
 use Rattle.interpreter.specs.cil_model.declared.trees.Tree.{Tree}
-use Rattle.interpreter.specs.cil_model.declared.types.ClassName.{ClassName}
 use Rattle.interpreter.specs.cil_model.declared.types.DeclaredType.{DeclaredType}
-use Rattle.interpreter.specs.cil_model.Bodies.{entry_points}
 use Rattle.interpreter.specs.cil_model.Fields.{FieldKey, static_fields}
 use Rattle.interpreter.specs.cil_model.Ranges.{are_in_range}
 use Rattle.interpreter.specs.cil_model.Typings.{IsAccepted}
@@ -26,7 +22,6 @@ use Rattle.interpreter.specs.reference_machine.TypedStates.{HaveFieldTypes}
 use Rattle.collector.specs.Phases.{is_of_cycle}
 use Rattle.collector.specs.declared.progress.Progress.{Progress}
 use Rattle.interpreter.specs.object_memory.Cells.{used_words}
-use Rattle.interpreter.specs.loaded_program.MethodNumbers.{number_of}
 use Rattle.interpreter.specs.object_memory.declared.values.Value.{Value}
 use Rattle.simulation.specs.MachineStates.{MachineState}
 use Rattle.simulation.specs.CollectorSteps.{with_acknowledgement}
@@ -35,17 +30,17 @@ use Rattle.simulation.specs.Rooms.{spaces_of}
 use Rattle.simulation.specs.Runs.{DoTransitions, IsNext, IsRunOf, RefusesBeyondRoom}
 use Rattle.simulation.specs.Sound.{IsSound}
 use Rattle.simulation.specs.Refines.{IsValue, Represents}
-use Rattle.simulation.specs.Transitions.{IsTransition, machine_state_at, initial_machine_state}
-use Rattle.interpreter.proofs.cil_model.Lists.{none_is_some}
+use Rattle.simulation.specs.Transitions.{IsTransition, initial_machine_state}
 use Rattle.simulation.proofs.ListLaws.AgreeingLists.{agree_length}
 use Rattle.simulation.proofs.CycleBounds.CollectorWork.{collector_takes}
-use Rattle.simulation.proofs.CycleBounds.WorkLeft.{TakesWork, acknowledgement_large, acknowledgement_leaves, acknowledgement_posted, cycle_work, grey_there, heap_leaves, larger, left_in, left_with, none_left, own_is_early, static_count, takes_nothing, work_left}
+use Rattle.simulation.proofs.CycleBounds.WorkLeft.{TakesWork, acknowledgement_large, acknowledgement_leaves, cycle_work, grey_there, heap_leaves, larger, left_in, left_with, none_left, own_is_early, static_count, takes_nothing, work_left}
 use Rattle.simulation.proofs.Threads.StepEffects.{same_program}
 use Rattle.simulation.proofs.Threads.UnchangedPosts.{KeepsCollector, step_keeps}
-use Rattle.simulation.proofs.Representation.InitialContents.{initial_represents}
+use Rattle.simulation.proofs.Representation.InitialContents.{initially, opened_represents}
 use Rattle.simulation.proofs.Threads.StepResults.{KeepsOwnRoom}
 use Rattle.simulation.proofs.Threads.Steps.{step_follows}
 use Rattle.simulation.proofs.Runs.EventCorrespondence.{acknowledgement_keeps, collection_keeps, each_alike}
+use Rattle.simulation.proofs.CollectorEvents.AcknowledgementCases.{acknowledged_posted}
 
 -- so the heap alone may make a difference to the work that is left
 heap_alone : (c d : MachineState) → d.tree ≡ c.tree → KeepsCollector c d → work_left d ≡ left_with c d.objects.spaces
@@ -93,7 +88,7 @@ goes c s r (Ack t) after transition = record {
   next = refl;
   represents = acknowledgement_keeps c s r t after transition;
   takes = subst (TakesWork c (Ack t)) (sym transition)
-      (takes_nothing c (Ack t) (with_acknowledgement c t).0 (with_acknowledgement c t).1 refl refl (λ is. sym (acknowledgement_posted c t) ∙ is) (acknowledgement_leaves c t r.sound) (acknowledgement_large c t));
+      (takes_nothing c (Ack t) (with_acknowledgement c t).0 (with_acknowledgement c t).1 refl refl (λ is. sym (acknowledged_posted c t) ∙ is) (acknowledgement_leaves c t r.sound) (acknowledgement_large c t));
 }
 goes c s r Gc after transition = record {
   state = s;
@@ -178,15 +173,7 @@ module _ (tree : Tree) (limits : Limits) where
     left : work_left c ≡ 0
 
   opened_unbegun : (c : MachineState) → initial_machine_state tree limits ≡ Some c → IsUnbegun c
-  opened_unbegun c e = by_entry (slice_get (entry_points tree) 0) e
-    where
-      by_number : (entry : ClassName × Method) (n : Option ℕ) → option_map (machine_state_at tree limits entry) n ≡ Some c → IsUnbegun c
-      by_number entry None h = none_is_some c h
-      by_number entry (Some n) h = subst IsUnbegun (same_Some (machine_state_at tree limits entry n) c h) (record { tree_is = refl; left = refl })
-
-      by_entry : (entry : Option (ClassName × Method)) → option_and_then (λ (x : ClassName × Method). option_map (machine_state_at tree limits x) (number_of tree x)) entry ≡ Some c → IsUnbegun c
-      by_entry None h = none_is_some c h
-      by_entry (Some entry) h = by_number entry (number_of tree entry) h
+  opened_unbegun = initially tree limits IsUnbegun (λ entry n. record { tree_is = refl; left = refl })
 
   bounded_first : (c : MachineState) → IsUnbegun c → IsBounded [] c
   bounded_first c h = record {
@@ -214,10 +201,7 @@ module _ (tree : Tree) (limits : Limits) where
     -- no cycle of a run has more working events than that
     pub cycles_bounded : (events : List Event) (reports : List Report) (s : State) → IsRunOf tree limits events reports s → AreCyclesBounded tree limits (zip events reports)
     cycles_bounded events reports s h done rest split =
-        let opened = initial_represents tree limits accepted in_range in
-        let machine_state : opened.0 ≡ h.machine = same_Some opened.0 h.machine (sym opened.2 ∙ h.opened) in
-        let state : opened.1 ≡ h.first = same_Some opened.1 h.first (sym opened.3 ∙ h.begins) in
-        let represents : Represents h.machine h.first = subst (λ (c : MachineState). Represents c h.first) machine_state (subst (λ (x : State). Represents opened.0 x) state opened.4) in
+        let represents : Represents h.machine h.first = opened_represents tree limits accepted in_range h.machine h.opened h.first h.begins in
         let first : IsBounded [] h.machine = bounded_first h.machine (opened_unbegun h.machine h.opened) in
         let after = bounded_after done rest [] h.machine h.first h.last first represents (subst (λ l. RefusesBeyondRoom h.machine h.first l h.last) split h.refuses) in
         let all : work_of_newest (reverse done) ≤ bound after.0 = subst (λ l. work_of_newest l ≤ bound after.0) (append-nil (reverse done)) after.2 in

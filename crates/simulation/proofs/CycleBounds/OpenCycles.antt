@@ -1,36 +1,31 @@
 -- Whether a cycle of the collector is open after some events: exactly where a phase of a cycle is posted.
-use Rattle.std.proofs.Common.{◌≡◌, ◌+◌, ℕ, Bool, true, false, if◌then◌else◌, List, [], ◌∷◌, ◌++◌, length, Option, Some, None, reverse, refl, sym, ap, ◌∙◌, subst, arith, append_assoc, length-append}
-use Rattle.std.specs.Prelude.{◌||◌, nat_lt, slice_get, option_map, option_and_then}
+use Rattle.std.proofs.Common.{◌≡◌, ◌+◌, ℕ, Bool, true, false, if◌then◌else◌, List, [], ◌∷◌, ◌++◌, Some, reverse, refl, sym, ap, ◌∙◌, subst, arith, append_assoc}
+use Rattle.std.specs.Prelude.{◌||◌, nat_lt}
 use Rattle.std.proofs.lemmas.Bool.Decides.{nat_tests}
-use Rattle.std.proofs.lemmas.List.{reverse-append}
-use Rattle.std.proofs.lemmas.Option.{same_Some}
+use Rattle.std.proofs.lemmas.List.{reverse-append, same_from_push}
 use Rattle.interpreter.specs.cil_model.declared.events.Event.{Event}
 use Rattle.interpreter.specs.cil_model.declared.events.Event.TheVariants.{Step, Ack, Gc}
 use Rattle.interpreter.specs.cil_model.declared.limits.Limits.{Limits}
 use Rattle.interpreter.specs.cil_model.declared.phases.Phase.{Phase}
 use Rattle.interpreter.specs.cil_model.declared.phases.Phase.TheVariants.{Idle}
 use Rattle.interpreter.specs.cil_model.declared.reports.Report.{Report}
-use Rattle.interpreter.specs.cil_model.declared.trees.Method.{Method}
 use Rattle.interpreter.specs.cil_model.declared.trees.Tree.{Tree}
-use Rattle.interpreter.specs.cil_model.declared.types.ClassName.{ClassName}
-use Rattle.interpreter.specs.cil_model.Bodies.{entry_points}
-use Rattle.interpreter.specs.loaded_program.MethodNumbers.{number_of}
 use Rattle.interpreter.specs.reference_machine.Cycles.{begins_cycle, ends_cycle, is_cycle_open, is_working, work_since}
 use Rattle.interpreter.specs.reference_machine.States.{State}
 use Rattle.interpreter.proofs.reference_machine.Runs.InstructionEffects.{same_after}
-use Rattle.interpreter.proofs.cil_model.Lists.{none_is_some}
 use Rattle.interpreter.proofs.cil_model.SameLaws.{never}
 use Rattle.collector.specs.Phases.{is_of_cycle}
 use Rattle.simulation.specs.MachineStates.{MachineState}
 use Rattle.simulation.specs.Runs.{IsNext}
 use Rattle.simulation.specs.Refines.{Represents}
-use Rattle.simulation.specs.Transitions.{IsTransition, machine_state_at, initial_machine_state}
+use Rattle.simulation.specs.Transitions.{IsTransition, initial_machine_state}
 use Rattle.simulation.proofs.CollectorEvents.Reports.{IsCollected, collected_is, ends, waits, works}
 use Rattle.simulation.proofs.Instructions.Correspondence.{InstructionsAreAlike}
 use Rattle.simulation.proofs.Threads.UnchangedPosts.{step_posted}
-use Rattle.simulation.proofs.RetainedWords.OpenCycleStates.{acknowledged_posted}
 use Rattle.simulation.proofs.Threads.Steps.{step_follows}
 use Rattle.simulation.proofs.Runs.EventCorrespondence.{acknowledgement_keeps, collection_keeps}
+use Rattle.simulation.proofs.Representation.InitialContents.{initially}
+use Rattle.simulation.proofs.CollectorEvents.AcknowledgementCases.{acknowledged_posted}
 
 -- ---- whether a cycle is open
 
@@ -88,15 +83,7 @@ pub record IsOpened (tree : Tree) (limits : Limits) (c : MachineState) : Type 0 
   pub idle : c.posts.posted_phase ≡ Idle
 
 pub opened_is : (tree : Tree) (limits : Limits) (c : MachineState) → initial_machine_state tree limits ≡ Some c → IsOpened tree limits c
-opened_is tree limits c e = by_entry (slice_get (entry_points tree) 0) e
-  where
-    by_number : (entry : ClassName × Method) (n : Option ℕ) → option_map (machine_state_at tree limits entry) n ≡ Some c → IsOpened tree limits c
-    by_number entry None h = none_is_some c h
-    by_number entry (Some n) h = subst (IsOpened tree limits) (same_Some (machine_state_at tree limits entry n) c h) (record { tree_is = refl; limits_are = refl; idle = refl })
-
-    by_entry : (entry : Option (ClassName × Method)) → option_and_then (λ (x : ClassName × Method). option_map (machine_state_at tree limits x) (number_of tree x)) entry ≡ Some c → IsOpened tree limits c
-    by_entry None h = none_is_some c h
-    by_entry (Some entry) h = by_number entry (number_of tree entry) h
+opened_is tree limits = initially tree limits (IsOpened tree limits) (λ entry n. record { tree_is = refl; limits_are = refl; idle = refl })
 
 -- a phase that is of no cycle
 pub idle_of : (x : Phase) → is_of_cycle x ≡ false → x ≡ Idle
@@ -110,22 +97,10 @@ pub last_split : {X : Type 0} (x : X) (xs : List X) → (front : List X) × (y :
 last_split x [] = ([], x, refl)
 last_split x (z ∷ zs) = let later = last_split z zs in (x ∷ later.0, later.1, ap (λ l. x ∷ l) later.2)
 
-heads_same : {X : Type 0} (x y : X) (xs ys : List X) → x ∷ xs ≡ y ∷ ys → x ≡ y
-heads_same x y xs ys e = cc
-
-tails_same : {X : Type 0} (x y : X) (xs ys : List X) → x ∷ xs ≡ y ∷ ys → xs ≡ ys
-tails_same x y xs ys e = cc
-
-pub last_same : {X : Type 0} (xs ys : List X) (x y : X) → xs ++ x ∷ [] ≡ ys ++ y ∷ [] → x ≡ y
-last_same [] [] x y e = heads_same x y [] [] e
-last_same [] (z ∷ zs) x y e = let short = ap length e in let long = length-append zs (y ∷ []) in absurd (omega (arith, short, long))
-last_same (z ∷ zs) [] x y e = let short = ap length e in let long = length-append zs (x ∷ []) in absurd (omega (arith, short, long))
-last_same (z ∷ zs) (w ∷ ws) x y e = last_same zs ws x y (tails_same z w (zs ++ x ∷ []) (ws ++ y ∷ []) e)
-
 -- what begins a cycle has a last event
 pub split_at_last : (xs ys most : List (Event × Report)) (e : Event × Report) → begins_cycle ys ≡ true → xs ++ ys ≡ most ++ e ∷ [] → (front : List (Event × Report)) × (ys ≡ front ++ e ∷ [])
 split_at_last xs [] most e begins split = never begins
 split_at_last xs (y ∷ ys) most e begins split =
     let last = last_split y ys in
     let whole : (xs ++ last.0) ++ last.1 ∷ [] ≡ most ++ e ∷ [] = append_assoc xs last.0 (last.1 ∷ []) ∙ (ap (λ l. xs ++ l) (sym last.2) ∙ split) in
-    (last.0, last.2 ∙ ap (λ z. last.0 ++ z ∷ []) (last_same (xs ++ last.0) most last.1 e whole))
+    (last.0, last.2 ∙ ap (λ z. last.0 ++ z ∷ []) (same_from_push (xs ++ last.0) most last.1 e whole).1)

@@ -1,5 +1,5 @@
 -- The working events that the open cycle of a machine may still have, by the posted phase: no step of a thread and no acknowledgement makes them more.
-use Rattle.std.proofs.Common.{◌≡◌, ◌≢◌, ◌⊎◌, ◌+◌, ◌-◌, ◌*◌, ◌≤◌, ℕ, max, Bool, true, false, length, refl, inl, inr, sym, ap, ◌∙◌, subst, arith}
+use Rattle.std.proofs.Common.{◌≡◌, ◌≢◌, ◌⊎◌, ◌+◌, ◌-◌, ◌*◌, ◌≤◌, ℕ, max, Bool, true, false, length, refl, inl, inr, sym, ap, ◌∙◌, subst, arith, Option}
 use Rattle.std.specs.Prelude.{Option, Some, None, is_some, slice_get}
 use Rattle.std.specs.Option.{option_map_or}
 use Rattle.std.proofs.lemmas.List.Elements.{All-weaker}
@@ -25,6 +25,7 @@ use Rattle.simulation.proofs.CycleBounds.MarkingWork.{AreGreyThere, LeavesNoMore
 use Rattle.simulation.proofs.CycleBounds.MarkingByThreads.{all_marks_stay}
 use Rattle.simulation.proofs.CollectorEvents.RootMarks.{thread_marked, thread_values}
 use Rattle.simulation.proofs.CollectedHeap.UsedWords.{AreAsLarge, all_marked_uses}
+use Rattle.interpreter.specs.threads_monitors.declared.threads.Thread.{Thread}
 
 -- ---- the measure
 
@@ -130,13 +131,17 @@ own_is_early h close marking t = by_seat (seat_of h t) refl
 
 -- ---- acknowledgements
 
--- an acknowledgement leaves each block as large
+-- the marks of a thread leave each block as large
+marks_large : (o : Objects) (x : Option Thread) → AreAsLarge o.spaces (with_thread_marked o x).spaces
+marks_large o x = subst (λ (y : Objects). AreAsLarge o.spaces y.spaces) (sym (thread_marked o x)) (let uses = all_marked_uses (thread_values x) o in record { old = uses.old_words; new = uses.new_words })
+
+-- so does an acknowledgement
 pub acknowledgement_large : (c : MachineState) (t : ℕ) → AreAsLarge c.objects.spaces (with_acknowledgement c t).0.objects.spaces
 acknowledgement_large c t =
     after_acknowledgement c t (λ d. AreAsLarge c.objects.spaces d.objects.spaces)
     (record {
       nothing = same;
-      marks = λ seat here opened seen marking. marked;
+      marks = λ seat here opened seen marking. marks_large c.objects (slice_get c.threads t);
       answers = λ seat here opened seen other. same;
       continues = λ seat here opened late later. same;
       flips = λ seat here opened late flip. same;
@@ -144,22 +149,6 @@ acknowledgement_large c t =
   where
     same : AreAsLarge c.objects.spaces c.objects.spaces
     same = record { old = refl; new = refl }
-
-    marked : AreAsLarge c.objects.spaces (with_thread_marked c.objects (slice_get c.threads t)).spaces
-    marked = subst (λ (o : Objects). AreAsLarge c.objects.spaces o.spaces) (sym (thread_marked c.objects (slice_get c.threads t)))
-        (let uses = all_marked_uses (thread_values (slice_get c.threads t)) c.objects in record { old = uses.old_words; new = uses.new_words })
-
--- and the posted phase
-pub acknowledgement_posted : (c : MachineState) (t : ℕ) → (with_acknowledgement c t).0.posts.posted_phase ≡ c.posts.posted_phase
-acknowledgement_posted c t =
-    after_acknowledgement c t (λ d. d.posts.posted_phase ≡ c.posts.posted_phase)
-    (record {
-      nothing = refl;
-      marks = λ seat here opened seen marking. refl;
-      answers = λ seat here opened seen other. refl;
-      continues = λ seat here opened late later. refl;
-      flips = λ seat here opened late flip. refl;
-    })
 
 -- and no more work
 pub acknowledgement_leaves : (c : MachineState) (t : ℕ) → IsSound c → work_left (with_acknowledgement c t).0 ≤ work_left c
@@ -179,9 +168,5 @@ acknowledgement_leaves c t sound =
     marks_stay : LeavesNoMore c.objects.spaces (with_thread_marked c.objects (slice_get c.threads t)).spaces
     marks_stay = subst (λ (o : Objects). LeavesNoMore c.objects.spaces o.spaces) (sym (thread_marked c.objects (slice_get c.threads t))) (all_marks_stay (thread_values (slice_get c.threads t)) c.objects)
 
-    marks_large : AreAsLarge c.objects.spaces (with_thread_marked c.objects (slice_get c.threads t)).spaces
-    marks_large = subst (λ (o : Objects). AreAsLarge c.objects.spaces o.spaces) (sym (thread_marked c.objects (slice_get c.threads t)))
-        (let uses = all_marked_uses (thread_values (slice_get c.threads t)) c.objects in record { old = uses.old_words; new = uses.new_words })
-
     marks_less : left_with c (with_thread_marked c.objects (slice_get c.threads t)).spaces ≤ work_left c
-    marks_less = heap_leaves c (with_thread_marked c.objects (slice_get c.threads t)).spaces marks_large.new (λ is. (grey_there c sound is, marks_stay))
+    marks_less = heap_leaves c (with_thread_marked c.objects (slice_get c.threads t)).spaces (marks_large c.objects (slice_get c.threads t)).new (λ is. (grey_there c sound is, marks_stay))

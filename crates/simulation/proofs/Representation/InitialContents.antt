@@ -1,5 +1,5 @@
 -- What a machine holds at first represents the initial state.
-use Rattle.std.proofs.Common.{◌≡◌, ◌==◌, is_some, true, false, inl, inr, ℕ, IsTrue, List, [], ◌∷◌, length, Option, Some, None, option_map, option_and_then, slice_get, refl, sym, ap, ◌∙◌, arith}
+use Rattle.std.proofs.Common.{◌≡◌, ◌==◌, is_some, true, false, inl, inr, ℕ, IsTrue, List, [], ◌∷◌, length, Option, Some, None, option_map, option_and_then, slice_get, refl, sym, ap, ◌∙◌, arith, subst}
 use Rattle.interpreter.specs.cil_model.declared.limits.Limits.{Limits}
 use Rattle.interpreter.specs.cil_model.declared.trees.Code.{Code}
 use Rattle.interpreter.specs.cil_model.declared.trees.Method.{Method}
@@ -51,6 +51,7 @@ use Rattle.collector.specs.Soundness.{IsListed, IsSoundHeap}
 use Rattle.collector.proofs.PhaseChanges.BetweenCycles.{quiet_is_sound}
 use Rattle.simulation.proofs.Representation.MoreNames.{beginning_refines}
 use Rattle.simulation.proofs.Representation.LiteralNames.{same_for_each, free_first, literal_names, IsNamedLiteral, named_literal, literal_named, literals_small, literals_apart}
+use Rattle.std.proofs.lemmas.Option.{same_Some}
 
 module _ (tree : Tree) (limits : Limits) (accepted : IsAccepted tree) (in_range : IsTrue (are_in_range limits)) where
   -- no object is there but the literals
@@ -167,8 +168,26 @@ module _ (tree : Tree) (limits : Limits) (accepted : IsAccepted tree) (in_range 
           },
         )
 
+-- what the initial machine state of each entry point has, that of the program has
+pub initially : (tree : Tree) (limits : Limits) (P : MachineState → Type 0) → ((entry : ClassName × Method) (n : ℕ) → P (machine_state_at tree limits entry n)) → (c : MachineState) → initial_machine_state tree limits ≡ Some c → P c
+initially tree limits P each c e = by_entry (slice_get (entry_points tree) 0) e
+  where
+    by_number : (entry : ClassName × Method) (n : Option ℕ) → option_map (machine_state_at tree limits entry) n ≡ Some c → P c
+    by_number entry None h = none_is_some c h
+    by_number entry (Some n) h = subst P (same_Some (machine_state_at tree limits entry n) c h) (each entry n)
+
+    by_entry : (entry : Option (ClassName × Method)) → option_and_then (λ (x : ClassName × Method). option_map (machine_state_at tree limits x) (number_of tree x)) entry ≡ Some c → P c
+    by_entry None h = none_is_some c h
+    by_entry (Some entry) h = by_number entry (number_of tree entry) h
+
 -- an accepted program has an initial machine state, which represents its initial state
 pub initial_represents : (tree : Tree) (limits : Limits) → IsAccepted tree → IsTrue (are_in_range limits) →
     (c : MachineState) × (s : State) × (initial_machine_state tree limits ≡ Some c) × (initial_state tree limits ≡ Some s) × Represents c s
 initial_represents tree limits accepted in_range =
     let entry = entry_alone tree accepted.legal in opened_with tree limits accepted in_range entry.0 entry.1 (code_of entry.0.1.kind) refl
+
+-- so its initial machine state represents its initial state
+pub opened_represents : (tree : Tree) (limits : Limits) → IsAccepted tree → IsTrue (are_in_range limits) → (c : MachineState) → initial_machine_state tree limits ≡ Some c → (s : State) → initial_state tree limits ≡ Some s → Represents c s
+opened_represents tree limits accepted in_range c opens s begins =
+    let opened = initial_represents tree limits accepted in_range in
+    subst (λ (x : MachineState). Represents x s) (same_Some opened.0 c (sym opened.2 ∙ opens)) (subst (λ (x : State). Represents opened.0 x) (same_Some opened.1 s (sym opened.3 ∙ begins)) opened.4)

@@ -18,6 +18,7 @@ use Rattle.simulation.proofs.ProgramSizes.Methods.{literals_few}
 use Rattle.interpreter.specs.object_memory.declared.addresses.TheConstants.{ADDRESSES, FIRST_LITERAL}
 use Rattle.interpreter.specs.object_memory.Cells.{literal, literal_number}
 use Rattle.simulation.specs.Refines.{Names}
+use Rattle.interpreter.proofs.object_memory.MonitorsAt.{literal_number_of}
 
 -- ---- lists in which nothing stands twice
 
@@ -89,12 +90,6 @@ literal_is a k h = by_test (nat_lt a FIRST_LITERAL) refl h
     by_test true is e = none_is_some k e
     by_test false is e = let same : a - FIRST_LITERAL ≡ k = same_Some (a - FIRST_LITERAL) k e in grind (arith, nat_tests)
 
-number_is : (n : ℕ) → literal_number (literal n) ≡ Some n
-number_is n =
-    let not_low : nat_lt (FIRST_LITERAL + n) FIRST_LITERAL ≡ false = grind (arith, nat_tests) in
-    let left : FIRST_LITERAL + n - FIRST_LITERAL ≡ n = omega arith in
-    ap (λ b. if b then None else Some (FIRST_LITERAL + n - FIRST_LITERAL)) not_low ∙ ap Some left
-
 -- ---- names of literals alone
 
 module _ (tree : Tree) where
@@ -122,7 +117,7 @@ module _ (tree : Tree) where
       by_number (Some k) has_id e = by_literal k has_id (slice_get (literals_of tree) k) refl e
 
   pub literal_named : (n : ℕ) (characters : List ℕ) → slice_get (literals_of tree) n ≡ Some characters → literal_names (literal n).number ≡ Some (Literal characters)
-  literal_named n characters is = ap (λ o. option_map Literal (option_and_then (slice_get (literals_of tree)) o)) (number_is n) ∙ ap (option_map Literal) is
+  literal_named n characters is = ap (λ o. option_map Literal (option_and_then (slice_get (literals_of tree)) o)) (literal_number_of n) ∙ ap (option_map Literal) is
 
   pub literals_small : IsLegal tree → (a : ℕ) (n : ObjectName) → literal_names a ≡ Some n → a < ADDRESSES
   literals_small legal a n h =

@@ -35,6 +35,7 @@ use Rattle.simulation.proofs.CollectedHeap.TwoCopies.{late_of, words_are_live}
 use Rattle.simulation.proofs.Memory.ReferenceSlots.{kind_of_state, is_reference_kind}
 use Rattle.simulation.proofs.Representation.RenamedSlots.{ShowAlike, contents_shown}
 use Rattle.simulation.proofs.Memory.NamedAddresses.{born_renamed}
+use Rattle.interpreter.proofs.loaded_program.OperandLaws.{if_some}
 
 -- What is named is live, and the new copy of a named old object has its name where it is live too.
 pub record IsNormal (posted_phase : Phase) (m : Spaces) (name : Names) : Type 0 where
@@ -42,11 +43,6 @@ pub record IsNormal (posted_phase : Phase) (m : Spaces) (name : Names) : Type 0 
   pub filled : (a b : ℕ) (n : ObjectName) → name a ≡ Some n → other_of (cell_in m.old (record { number = a })) ≡ Some (record { number = b }) → is_live posted_phase m (record { number = b }) ≡ true → name b ≡ Some n
 
 -- ---- the names
-
--- where a choice has a value, it is that of the first of both
-some_if : {X : Type 0} (b : Bool) (x : Option X) (n : X) → (if b then x else None) ≡ Some n → (b ≡ true) × (x ≡ Some n)
-some_if true x n e = (refl, e)
-some_if false x n e = none_is_some n e
 
 first_cases : {X : Type 0} (x y : Option X) (n : X) → first_of x y ≡ Some n → (x ≡ Some n) ⊎ (y ≡ Some n)
 first_cases None y n e = inr e
@@ -72,15 +68,15 @@ module _ (posted_phase : Phase) (m : Spaces) (name : Names) where
 
   cut_copied : (a : ℕ) (n : ObjectName) (o : Option Addr) → other_of (cell_in m.new (record { number = a })) ≡ o → cut_at o ≡ Some n → IsFilled a n
   cut_copied a n None is e = none_is_some n e
-  cut_copied a n (Some b) is e = let parts = some_if (is_live posted_phase m b) (name b.number) n e in copied b is parts.0 parts.1
+  cut_copied a n (Some b) is e = let parts = if_some (is_live posted_phase m b) (name b.number) n e in copied b is parts.0 parts.1
 
   filled_is : (a : ℕ) (n : ObjectName) → filled a ≡ Some n → (is_live posted_phase m (record { number = a }) ≡ true) × IsFilled a n
   filled_is a n e = by_part (first_cases (cut a) _ n e)
     where
       by_part : (cut a ≡ Some n) ⊎ ((if is_live posted_phase m (record { number = a }) then cut_at (other_of (cell_in m.new (record { number = a }))) else None) ≡ Some n) → (is_live posted_phase m (record { number = a }) ≡ true) × IsFilled a n
-      by_part (inl k) = let parts = some_if (is_live posted_phase m (record { number = a })) (name a) n k in (parts.0, own parts.1)
+      by_part (inl k) = let parts = if_some (is_live posted_phase m (record { number = a })) (name a) n k in (parts.0, own parts.1)
       by_part (inr k) =
-          let parts = some_if (is_live posted_phase m (record { number = a })) (cut_at (other_of (cell_in m.new (record { number = a })))) n k in
+          let parts = if_some (is_live posted_phase m (record { number = a })) (cut_at (other_of (cell_in m.new (record { number = a })))) n k in
           (parts.0, cut_copied a n (other_of (cell_in m.new (record { number = a }))) refl parts.1)
 
   is_cut : (a : ℕ) (n : ObjectName) → is_live posted_phase m (record { number = a }) ≡ true → name a ≡ Some n → cut a ≡ Some n
@@ -168,7 +164,7 @@ module _ (tree : Tree) (posted_phase : Phase) (has_round : Bool) (words : ℕ) (
           by_own None is =
               ap (λ t. if t then cut_at posted_phase m name (other_of (cell_in m.new b)) else None) live_new ∙ ap (cut_at posted_phase m name) there ∙ is_cut posted_phase m name a.number n live_old named
           by_own (Some k) is =
-              let own_name = (some_if (is_live posted_phase m b) (name b.number) k is).1 in
+              let own_name = (if_some (is_live posted_phase m b) (name b.number) k is).1 in
               ap Some (sym (heap.names.twins a.number b.number n k named own_name twins))
 
       -- the new copy has the name of the old one

@@ -1,25 +1,20 @@
 -- No space of a machine has more words in use than all objects that were born so far, whatever events of the collector there were: so a machine with
 -- a collector refuses no birth for which one space without a collector has room.
-use Rattle.std.proofs.Common.{◌≡◌, ◌≤◌, ◌<◌, ◌+◌, ◌-◌, ◌&&◌, ℕ, zero, suc, Bool, true, false, if◌then◌else◌, is_none, List, [], ◌∷◌, length, Option, Some, None, option_map, option_and_then, slice_get, refl, inr, sym, ap, ◌∙◌, subst, arith}
+use Rattle.std.proofs.Common.{◌≡◌, ◌≤◌, ◌<◌, ◌+◌, ◌-◌, ◌&&◌, ℕ, zero, suc, Bool, true, false, if◌then◌else◌, is_none, List, [], ◌∷◌, length, Option, Some, None, slice_get, refl, inr, sym, ap, ◌∙◌, subst, arith}
 use Rattle.std.specs.Prelude.{nat_lt}
 use Rattle.std.specs.Option.{option_map_or}
-use Rattle.std.proofs.lemmas.Option.{same_Some}
 use Rattle.interpreter.specs.cil_model.declared.events.Event.TheVariants.{Step, Ack, Gc}
 use Rattle.interpreter.specs.cil_model.declared.limits.Limits.{Limits}
 use Rattle.interpreter.specs.cil_model.declared.phases.Phase.{Phase}
 use Rattle.interpreter.specs.cil_model.declared.phases.Phase.TheVariants.{Idle, Mark, ThreadFlip, Reclaim}
 use Rattle.interpreter.specs.cil_model.declared.reports.Report.{Report}
 use Rattle.interpreter.specs.cil_model.declared.reports.Report.TheVariants.{Absent, Acked, NothingPosted}
-use Rattle.interpreter.specs.cil_model.declared.trees.Method.{Method}
 use Rattle.interpreter.specs.cil_model.declared.trees.Tree.{Tree}
-use Rattle.interpreter.specs.cil_model.declared.types.ClassName.{ClassName}
-use Rattle.interpreter.specs.cil_model.Bodies.{entry_points}
 use Rattle.interpreter.specs.reference_machine.Cycles.{SpaceSizes as SeenSpaces, new_room, room, space_room}
 use Rattle.interpreter.specs.reference_machine.Rooms.{ExceedsRoom, cell_words, spaces, words_of_all}
 use Rattle.interpreter.specs.reference_machine.Runs.{is_refusal}
 use Rattle.interpreter.specs.reference_machine.States.{State}
 use Rattle.interpreter.specs.reference_machine.Steps.{Answers, step}
-use Rattle.interpreter.specs.loaded_program.MethodNumbers.{number_of}
 use Rattle.interpreter.specs.object_memory.declared.addresses.Addr.{Addr}
 use Rattle.interpreter.specs.object_memory.declared.values.Value.TheVariants.{Ref}
 use Rattle.interpreter.specs.object_memory.Cells.{Cell, cell_in, free_words, next_address, size, store_copies, store_monitor, store_slot, used_words}
@@ -31,7 +26,6 @@ use Rattle.interpreter.specs.threads_monitors.Threads.{is_live_at}
 use Rattle.interpreter.specs.threads_monitors.declared.threads.ThreadStatus.{ThreadStatus}
 use Rattle.interpreter.specs.threads_monitors.declared.threads.ThreadStatus.TheVariants.{Live, Ended}
 use Rattle.interpreter.specs.threads_monitors.declared.threads.Thread.{Thread}
-use Rattle.interpreter.proofs.cil_model.Lists.{none_is_some}
 use Rattle.interpreter.proofs.object_memory.Blocks.{used_in}
 use Rattle.interpreter.proofs.object_memory.Rooms.{HasShellRoom-shell}
 use Rattle.interpreter.proofs.object_memory.TwoSpaces.TwoBlocks.{slot_keeps}
@@ -52,7 +46,7 @@ use Rattle.simulation.specs.MachineStates.{MachineState}
 use Rattle.simulation.specs.Rooms.{HasNoRoom, spaces_of}
 use Rattle.simulation.specs.Sound.{IsSound}
 use Rattle.simulation.specs.Refines.{Represents}
-use Rattle.simulation.specs.Transitions.{IsTransition, machine_state_at, initial_machine_state}
+use Rattle.simulation.specs.Transitions.{IsTransition, initial_machine_state}
 use Rattle.simulation.proofs.CollectorEvents.Reports.{IsCollected, waits}
 use Rattle.simulation.proofs.Instructions.Correspondence.{InstructionsAreAlike}
 use Rattle.simulation.proofs.CycleBounds.OpenCycles.{gc_is}
@@ -60,6 +54,7 @@ use Rattle.simulation.proofs.Threads.Steps.{beyond, is_beyond, step_follows}
 use Rattle.simulation.proofs.CollectedHeap.MemoryWithRoom.{closed_room, open_room}
 use Rattle.simulation.proofs.CollectedHeap.UsedWords.{UsesAsMuch, all_marked_uses, change_uses, marked_uses, uses_itself, uses_then}
 use Rattle.simulation.proofs.CollectorEvents.EventCases.{IsWork, allocates_copy, by_cases, clears_object, copies_word, ends_cycle, marks_object, opens_cycle, posting, posts_round, scans_statics}
+use Rattle.simulation.proofs.Representation.InitialContents.{initially}
 
 -- The old space has these words at least, and neither has more in use than all that are given.
 pub record AreWithin (least all : ℕ) (m : Spaces) : Type 0 where
@@ -269,12 +264,4 @@ module _ (c : MachineState) (s : State) (r : Represents c s) (h : IsWithinBirths
 
 module _ (tree : Tree) (limits : Limits) where
   pub opened_within : (c : MachineState) → initial_machine_state tree limits ≡ Some c → (s : State) → IsWithinBirths c s
-  opened_within c e s = by_entry (slice_get (entry_points tree) 0) e
-    where
-      by_number : (entry : ClassName × Method) (n : Option ℕ) → option_map (machine_state_at tree limits entry) n ≡ Some c → IsWithinBirths c s
-      by_number entry None h = none_is_some c h
-      by_number entry (Some n) h = subst (λ (x : MachineState). IsWithinBirths x s) (same_Some (machine_state_at tree limits entry n) c h) (record { words = omega arith; old = omega arith; new = omega arith })
-
-      by_entry : (entry : Option (ClassName × Method)) → option_and_then (λ (x : ClassName × Method). option_map (machine_state_at tree limits x) (number_of tree x)) entry ≡ Some c → IsWithinBirths c s
-      by_entry None h = none_is_some c h
-      by_entry (Some entry) h = by_number entry (number_of tree entry) h
+  opened_within c e s = initially tree limits (λ x. IsWithinBirths x s) (λ entry n. record { words = omega arith; old = omega arith; new = omega arith }) c e

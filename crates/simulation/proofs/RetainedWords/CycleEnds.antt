@@ -1,6 +1,6 @@
 -- At the end of a cycle no more words are in use than are retained.
 use Rattle.std.proofs.Common.{◌≡◌, ◌⊎◌, ◌≤◌, ◌<◌, ◌+◌, ℕ, Bool, true, false, List, [], ◌∷◌, ◌++◌, length, Contains, refl, inl, inr, sym, ap, ◌∙◌, subst, arith, append_assoc, length-append, slice_get, Option, Some}
-use Rattle.std.specs.Prelude.{◌||◌, ◌==◌, nat_le, sum_by, IsTrue}
+use Rattle.std.specs.Prelude.{◌||◌, nat_le, sum_by, IsTrue, ◌==◌}
 use Rattle.std.specs.Cmp.{nat_eq_equiv}
 use Rattle.std.specs.List.{zip}
 use Rattle.std.proofs.lemmas.Bool.{eqb-true, or_cases, or_left, or_right}
@@ -41,16 +41,17 @@ use Rattle.simulation.proofs.RetainedWords.SumsOverNames.{is_listed, words_by_id
 use Rattle.simulation.proofs.RetainedWords.NamesInSets.{born_inside}
 use Rattle.simulation.proofs.Threads.LiveThreads.{normally}
 use Rattle.simulation.proofs.CycleBounds.OpenCycles.{IsBefore, IsOpened, before_goes, gc_is, idle_of, open_then, opened_is, split_at_last, then_open}
-use Rattle.simulation.proofs.Representation.InitialContents.{initial_represents}
+use Rattle.simulation.proofs.Representation.InitialContents.{opened_represents}
 use Rattle.simulation.proofs.RetainedWords.NewestCycles.{end_retains}
 use Rattle.simulation.proofs.Threads.UnchangedPosts.{step_posted}
-use Rattle.simulation.proofs.RetainedWords.OpenCycleStates.{IsRetainedBy, acknowledged_retained, acknowledged_posted, begins_retained, collected_retained, stepped_retained_as}
+use Rattle.simulation.proofs.RetainedWords.OpenCycleStates.{IsRetainedBy, acknowledged_retained, begins_retained, collected_retained, stepped_retained_as}
 use Rattle.simulation.proofs.Runs.EventByEvent.{OwnEffect, Continues, IsAt, continues, walk}
 use Rattle.interpreter.proofs.cil_model.Lists.{none_is_some}
 use Rattle.interpreter.specs.object_memory.declared.addresses.Addr.{Addr}
 use Rattle.interpreter.proofs.object_memory.TwoSpaces.TwoBlocks.{new_is_cell, no_literal, not_old}
 use Rattle.collector.proofs.Addresses.Tests.{new_is}
 use Rattle.simulation.proofs.Memory.CellSizes.{cell_size}
+use Rattle.simulation.proofs.CollectorEvents.AcknowledgementCases.{acknowledged_posted}
 
 -- ---- Where each object of the new block has a name that is on a list, the block has no more words than the listed objects.
 
@@ -226,11 +227,7 @@ module _ (each : InstructionsAreAlike) (tree : Tree) (accepted : IsAccepted tree
 
   -- the machine at the beginning
   first_represents : Represents h.machine o.first
-  first_represents =
-      let opened = initial_represents tree limits accepted in_range in
-      let machine_state : opened.0 ≡ h.machine = same_Some opened.0 h.machine (sym opened.2 ∙ h.opened) in
-      let state : opened.1 ≡ o.first = same_Some opened.1 o.first (sym opened.3 ∙ o.opens) in
-      subst (λ (x : MachineState). Represents x o.first) machine_state (subst (λ (x : State). Represents opened.0 x) state opened.4)
+  first_represents = opened_represents tree limits accepted in_range h.machine h.opened o.first o.opens
 
   abbrev opened : IsOpened tree limits h.machine
   opened = opened_is tree limits h.machine h.opened

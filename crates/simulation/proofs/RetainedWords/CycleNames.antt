@@ -1,6 +1,6 @@
 -- Which addresses a cycle keeps names for: those of marked old objects until new ones are live, and then those of all new ones. Stores, marks and births
 -- add to them only what a thread has a name for.
-use Rattle.std.proofs.Common.{◌≡◌, ◌⊎◌, ℕ, Bool, true, false, Option, Some, None, is_some, refl, inl, inr, sym, ap, ◌∙◌, subst}
+use Rattle.std.proofs.Common.{◌≡◌, ◌⊎◌, ℕ, Bool, true, false, Option, Some, is_some, refl, inl, inr, sym, ap, ◌∙◌, subst}
 use Rattle.std.specs.Prelude.{◌||◌, unwrap_or}
 use Rattle.std.proofs.lemmas.Bool.{or_right}
 use Rattle.interpreter.specs.cil_model.declared.phases.Phase.{Phase}
@@ -26,12 +26,13 @@ use Rattle.collector.specs.Holds.{AnyLive, Hold, MarkedOnly, NewOnly, passes}
 use Rattle.collector.specs.Phases.{is_live, is_marked_cell, is_marked_old, is_new}
 use Rattle.collector.specs.References.{Test, is_permanent}
 use Rattle.collector.proofs.ThreadReferences.AfterStores.{marked_first}
-use Rattle.collector.proofs.Marks.MarkChanges.{AreDarker}
+use Rattle.collector.proofs.Marks.MarkChanges.{AreDarker, stays_marked}
 use Rattle.collector.proofs.Births.BirthSoundness.{IsNear, granted}
 use Rattle.collector.proofs.Marks.MarkedHeaps.{AreDarker-with_marked}
 use Rattle.collector.proofs.Addresses.TagChanges.{AreAlike}
 use Rattle.collector.proofs.Addresses.Tests.{HoldMeans, is_new_live, mark_is, marked_cell, marked_is_old, never, new_cell, new_is, old_is}
 use Rattle.simulation.specs.Refines.{Names}
+use Rattle.simulation.proofs.CollectorEvents.RepresentedObjects.{darker_other}
 
 -- ---- what has to have a name
 
@@ -117,28 +118,15 @@ module _ (posted_phase : Phase) (m n : Spaces) (alike : AreAlike m n) where
 
 module _ (m n : Spaces) (darker : AreDarker m n) where
   darker_forward : (a : Addr) → forward n a ≡ forward m a
-  darker_forward a = by_cells (cell_in m.old a) (cell_in n.old a) refl refl
-    where
-      by_cells : (x y : Option Cell) → cell_in m.old a ≡ x → cell_in n.old a ≡ y → unwrap_or (other_of (cell_in n.old a)) a ≡ unwrap_or (other_of (cell_in m.old a)) a
-      by_cells None None was is = ap (λ o. unwrap_or (other_of o) a) is ∙ sym (ap (λ o. unwrap_or (other_of o) a) was)
-      by_cells None (Some d) was is = let c = darker.was a d is in none_is_some c.0 (sym was ∙ c.1)
-      by_cells (Some c) y was is =
-          let d = darker.kept a c was in
-          ap (λ o. unwrap_or (other_of o) a) d.1 ∙ (ap (λ o. unwrap_or o a) d.2.other ∙ sym (ap (λ o. unwrap_or (other_of o) a) was))
+  darker_forward a = ap (λ o. unwrap_or o a) (darker_other m n darker a)
 
   darker_new : (a : Addr) → is_new n a ≡ is_new m a
   darker_new a = ap (λ s. is_some (cell_in s a)) darker.new
 
-  pub darker_marked : (a : Addr) → is_marked_old m a ≡ true → is_marked_old n a ≡ true
-  darker_marked a h =
-      let c = marked_cell m a h in
-      let d = darker.kept a c.0 c.1 in
-      mark_is n a d.0 d.1 ∙ d.2.marked c.2
-
   pub copies_darker : (posted_phase : Phase) → AreCopiesOfMarked posted_phase m → AreCopiesOfMarked posted_phase n
   copies_darker posted_phase are copying y new =
       let x = are copying y (sym (darker_new y) ∙ new) in
-      record { old = x.old; marked = darker_marked x.old x.marked; copy = darker_forward x.old ∙ x.copy }
+      record { old = x.old; marked = stays_marked m n darker x.old x.marked; copy = darker_forward x.old ∙ x.copy }
 
   -- what is kept then was kept before, or was marked since
   pub kept_darker : (posted_phase : Phase) (a : Addr) → is_kept posted_phase n a ≡ true → (is_kept posted_phase m a ≡ true) ⊎ ((is_marked_old n a ≡ true) × (is_marked_old m a ≡ true → is_kept posted_phase m a ≡ true))

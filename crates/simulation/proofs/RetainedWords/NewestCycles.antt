@@ -24,7 +24,6 @@ use Rattle.collector.specs.Phases.{is_of_cycle}
 use Rattle.simulation.specs.MachineStates.{MachineState}
 use Rattle.simulation.specs.RetainedObjects.{RetainsAfter}
 use Rattle.simulation.specs.Runs.{IsNext, IsRunOf}
-use Rattle.simulation.specs.Refines.{Represents}
 use Rattle.simulation.specs.Transitions.{IsTransition}
 use Rattle.interpreter.specs.reference_machine.TypedStates.{IsTyped}
 use Rattle.simulation.proofs.CollectorEvents.Reports.{IsCollected, ends}
@@ -32,28 +31,14 @@ use Rattle.simulation.proofs.Instructions.Correspondence.{InstructionsAreAlike}
 use Rattle.simulation.proofs.RetainedWords.SumsOverNames.{distinct_sum, is_listed}
 use Rattle.simulation.proofs.RetainedWords.ReachableObjects.{words_retained}
 use Rattle.simulation.proofs.CycleBounds.OpenCycles.{IsBefore, before_goes, gc_is, last_split, open_then, opened_is, then_open}
-use Rattle.simulation.proofs.Representation.InitialContents.{initial_represents}
+use Rattle.simulation.proofs.Representation.InitialContents.{opened_represents}
 use Rattle.simulation.proofs.Runs.EventByEvent.{OwnEffect, IsAt, continues, walk}
+use Rattle.std.proofs.lemmas.List.{same_from_push}
 
 -- ---- the newest cycle of events
 
 abbrev Events : Type 0
 Events = List (Event × Report)
-
-tails_same : {X : Type 0} (x y : X) (xs ys : List X) → x ∷ xs ≡ y ∷ ys → xs ≡ ys
-tails_same x y xs ys e = cc
-
-heads_same : {X : Type 0} (x y : X) (xs ys : List X) → x ∷ xs ≡ y ∷ ys → x ≡ y
-heads_same x y xs ys e = cc
-
--- two lists with one item more are the same before it
-front_same : {X : Type 0} (xs ys : List X) (x y : X) → xs ++ x ∷ [] ≡ ys ++ y ∷ [] → xs ≡ ys
-front_same [] [] x y e = refl
-front_same [] (z ∷ zs) x y e = let short = ap length e in let long = length-append zs (y ∷ []) in absurd (omega (arith, short, long))
-front_same (z ∷ zs) [] x y e = let short = ap length e in let long = length-append zs (x ∷ []) in absurd (omega (arith, short, long))
-front_same (z ∷ zs) (w ∷ ws) x y e =
-    let later = front_same zs ws x y (tails_same z w (zs ++ x ∷ []) (ws ++ y ∷ []) e) in
-    ap (λ v. v ∷ zs) (heads_same z w (zs ++ x ∷ []) (ws ++ y ∷ []) e) ∙ ap (λ l. w ∷ l) later
 
 -- what begins with an event begins a cycle or not, whatever follows
 begins_still : (xs : Events) (e : Event × Report) → begins_cycle xs ≡ true → begins_cycle (xs ++ e ∷ []) ≡ true
@@ -73,7 +58,7 @@ module _ (xs earlier later : Events) (split : BeginsNewestCycle xs earlier later
   goes_further between (x ∷ rest) is some shut =
       let last = last_split x rest in
       let whole : later ++ e ∷ [] ≡ (between ++ last.0) ++ last.1 ∷ [] = is ∙ (ap (λ l. between ++ l) last.2 ∙ sym (append_assoc between last.0 (last.1 ∷ []))) in
-      by_front between x rest last.0 last.1 last.2 (front_same later (between ++ last.0) e last.1 whole) some shut
+      by_front between x rest last.0 last.1 last.2 (same_from_push later (between ++ last.0) e last.1 whole).0 some shut
 
   -- so the newest cycle continues
   cycle_continues : BeginsNewestCycle (xs ++ e ∷ []) earlier (later ++ e ∷ [])
@@ -134,8 +119,9 @@ split_cases : {X : Type 0} (xs ys zs ws : List X) → xs ++ ys ≡ zs ++ ws → 
 split_cases [] ys zs ws e = inl (zs, refl, e)
 split_cases (x ∷ xs) ys [] ws e = inr (x ∷ xs, refl, sym e)
 split_cases (x ∷ xs) ys (z ∷ zs) ws e =
-    let same = heads_same x z (xs ++ ys) (zs ++ ws) e in
-    elim (split_cases xs ys zs ws (tails_same x z (xs ++ ys) (zs ++ ws) e)) [
+    let same : x ≡ z = cc in
+    let rest : xs ++ ys ≡ zs ++ ws = cc in
+    elim (split_cases xs ys zs ws rest) [
       | inl h ↦ inl (h.0, ap (λ v. v ∷ zs) (sym same) ∙ ap (λ l. x ∷ l) h.1, h.2)
       | inr h ↦ inr (h.0, ap (λ v. v ∷ xs) same ∙ ap (λ l. z ∷ l) h.1, h.2)
     ]
@@ -188,13 +174,6 @@ module _ (each : InstructionsAreAlike) (tree : Tree) (accepted : IsAccepted tree
   abbrev all : Events
   all = zip events reports
 
-  first_represents : Represents h.machine h.first
-  first_represents =
-      let opened = initial_represents tree limits accepted in_range in
-      let machine_state : opened.0 ≡ h.machine = same_Some opened.0 h.machine (sym opened.2 ∙ h.opened) in
-      let state : opened.1 ≡ h.first = same_Some opened.1 h.first (sym opened.3 ∙ h.begins) in
-      subst (λ (x : MachineState). Represents x h.first) machine_state (subst (λ (x : State). Represents opened.0 x) state opened.4)
-
   at_first : (xs ys : Events) → all ≡ xs ++ ys → IsAt tree limits all s h.last [] (xs ++ ys) h.machine h.first
   at_first xs ys split =
       let opened = opened_is tree limits h.machine h.opened in
@@ -205,7 +184,7 @@ module _ (each : InstructionsAreAlike) (tree : Tree) (accepted : IsAccepted tree
 
   -- what the run reaches after the first of its events
   come : (xs ys : Events) → all ≡ xs ++ ys → OwnEffect tree limits all s h.last IsBefore goes xs ys [] h.first
-  come xs ys split = walk tree limits all s h.last IsBefore goes xs ys [] h.machine h.first (at_first xs ys split) (record { represents = first_represents; posted_phase = ap is_of_cycle (opened_is tree limits h.machine h.opened).idle })
+  come xs ys split = walk tree limits all s h.last IsBefore goes xs ys [] h.machine h.first (at_first xs ys split) (record { represents = opened_represents tree limits accepted in_range h.machine h.opened h.first h.begins; posted_phase = ap is_of_cycle (opened_is tree limits h.machine h.opened).idle })
 
   -- there are words that the newest cycle must keep
   pub cycle_retains : (earlier later : Events) → BeginsNewestCycle all earlier later → (words : ℕ) × RetainsAfter tree limits events reports words

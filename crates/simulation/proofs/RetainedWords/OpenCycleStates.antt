@@ -1,5 +1,5 @@
 -- While a cycle is open, each object that it keeps has the name of one that is retained; so where it ends, no more words are in use than are retained.
-use Rattle.std.proofs.Common.{◌≡◌, ℕ, Bool, true, if◌then◌else◌, length, Some, None, refl, inl, inr, sym, ap, ◌∙◌, subst}
+use Rattle.std.proofs.Common.{◌≡◌, ℕ, Bool, true, if◌then◌else◌, length, Some, None, inl, inr, sym, ap, ◌∙◌, subst}
 use Rattle.interpreter.specs.cil_model.declared.events.Event.TheVariants.{Step}
 use Rattle.interpreter.specs.cil_model.declared.phases.Phase.TheVariants.{Idle}
 use Rattle.interpreter.specs.cil_model.declared.reports.Report.{Report}
@@ -16,7 +16,6 @@ use Rattle.simulation.specs.MachineStates.{MachineState}
 use Rattle.simulation.specs.CollectorSteps.{collect, with_acknowledgement}
 use Rattle.simulation.specs.Refines.{Names, Represents, RefinesUnder}
 use Rattle.simulation.specs.Transitions.{IsTransition}
-use Rattle.simulation.proofs.CollectorEvents.AcknowledgementCases.{after_acknowledgement}
 use Rattle.simulation.proofs.CollectorEvents.AcknowledgementNames.{acknowledgement_represents, acknowledgement_refines}
 use Rattle.simulation.proofs.CollectorEvents.UnchangedState.{collected_represents}
 use Rattle.simulation.proofs.CollectorEvents.RepresentedObjects.{collected_refines}
@@ -29,16 +28,6 @@ use Rattle.simulation.proofs.Threads.UnchangedPosts.{step_posted}
 use Rattle.simulation.proofs.Threads.LiveThreads.{KeepsOwnNames, normally, normally_from, normally_keeps}
 use Rattle.simulation.proofs.Threads.StepResults.{KeepsOwnRoom}
 use Rattle.simulation.proofs.Threads.Steps.{step_names}
-
--- no acknowledgement posts a phase
-pub acknowledged_posted : (c : MachineState) (t : ℕ) → (with_acknowledgement c t).0.posts.posted_phase ≡ c.posts.posted_phase
-acknowledged_posted c t = after_acknowledgement c t (λ (x : MachineState). x.posts.posted_phase ≡ c.posts.posted_phase) (record {
-  nothing = refl;
-  marks = λ seat here opened seen marking. refl;
-  answers = λ seat here opened seen other. refl;
-  continues = λ seat here opened late later. refl;
-  flips = λ seat here opened late flip. refl;
-})
 
 -- ---- names of what is retained
 

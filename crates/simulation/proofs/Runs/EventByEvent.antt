@@ -1,24 +1,33 @@
 -- A run of a machine beside the reference machine's, walked through event by event.
 use Rattle.std.proofs.Common.{◌≡◌, List, [], ◌∷◌, ◌++◌, refl, sym, ap, ◌∙◌, subst, append_assoc, append-nil}
 use Rattle.interpreter.specs.cil_model.declared.events.Event.{Event}
-use Rattle.interpreter.specs.cil_model.declared.events.Event.TheVariants.{Step, Ack, Gc}
+use Rattle.interpreter.specs.cil_model.declared.events.Event.TheVariants.{Step}
 use Rattle.interpreter.specs.cil_model.declared.limits.Limits.{Limits}
 use Rattle.interpreter.specs.cil_model.declared.reports.Report.{Report}
 use Rattle.interpreter.specs.cil_model.declared.trees.Tree.{Tree}
 use Rattle.interpreter.specs.reference_machine.Runs.{RunsTo, followed_by, is_refusal, preceded_by, run, step_reports, thread_part}
 use Rattle.interpreter.specs.reference_machine.States.{State}
-use Rattle.interpreter.specs.reference_machine.Steps.{Answers, step}
+use Rattle.interpreter.specs.reference_machine.Steps.{Answers}
 use Rattle.interpreter.proofs.reference_machine.Runs.JoinedRuns.{first_of}
 use Rattle.simulation.specs.MachineStates.{MachineState}
 use Rattle.simulation.specs.Runs.{IsNext, RefusesBeyondRoom}
 use Rattle.simulation.specs.Transitions.{IsTransition}
 use Rattle.simulation.proofs.Threads.StepEffects.{same_program}
 
-same_head : (a b : Report) (as' bs : List Report) → a ∷ as' ≡ b ∷ bs → a ≡ b
-same_head a b as' bs e = cc
+-- the state after the first event of a run, and the run from there
+pub first_next : (tree : Tree) (limits : Limits) (s : State) (e : Event) (r : Report) (rest : List (Event × Report)) (now : State) → run tree limits s (thread_part ((e, r) ∷ rest)) ≡ RunsTo (step_reports ((e, r) ∷ rest)) now →
+    (after : State) × IsNext tree limits s e r after × (run tree limits after (thread_part rest) ≡ RunsTo (step_reports rest) now)
+first_next tree limits s (Step n) r rest now runs =
+    let x = first_of tree limits s (n, is_refusal r) (thread_part rest) (r ∷ step_reports rest) now runs in
+    let are : r ∷ step_reports rest ≡ x.report ∷ x.later = x.are in
+    let reports : r ≡ x.report = cc in
+    let later : step_reports rest ≡ x.later = cc in
+    (x.after, x.answers ∙ ap (λ q. Answers q x.after) (sym reports), x.runs ∙ ap (λ l. RunsTo l now) (sym later))
+first_next tree limits s _ r rest now runs = (s, refl, runs)
 
-same_tail : (a b : Report) (as' bs : List Report) → a ∷ as' ≡ b ∷ bs → as' ≡ bs
-same_tail a b as' bs e = cc
+-- it is that of a machine state with the same program and limits
+pub next_of_same : (tree : Tree) (limits : Limits) (c : MachineState) (s : State) (e : Event) (r : Report) (after : State) → c.tree ≡ tree → c.limits ≡ limits → IsNext tree limits s e r after → IsNext c.tree c.limits s e r after
+next_of_same tree limits c s e r after same_tree same_limits is = subst (λ (l : Limits). IsNext c.tree l s e r after) (sym same_limits) (subst (λ (u : Tree). IsNext u limits s e r after) (sym same_tree) is)
 
 module _ (tree : Tree) (limits : Limits) (all : List (Event × Report)) (now : State) (last : MachineState) where
   -- a run is at a machine state and a state of the reference machine: these events are done, and these are left
@@ -46,36 +55,17 @@ module _ (tree : Tree) (limits : Limits) (all : List (Event × Report)) (now : S
         record { of_tree = same.0 ∙ at.of_tree; of_limits = same.1 ∙ at.of_limits; split = at.split ∙ sym (append_assoc done ((e, r) ∷ []) rest); runs = runs; refuses = refuses }
 
   pub continues : (done rest : List (Event × Report)) (c : MachineState) (s : State) (e : Event) (r : Report) → IsAt done ((e, r) ∷ rest) c s → Continues done rest c s e r
-  continues done rest c s (Step n) r at =
-      let x = first_of tree limits s (n, is_refusal r) (thread_part rest) (r ∷ step_reports rest) now at.runs in
-      let reports : r ≡ x.report = same_head r x.report (step_reports rest) x.later x.are in
-      let later : step_reports rest ≡ x.later = same_tail r x.report (step_reports rest) x.later x.are in
-      let answers : step tree limits s n (is_refusal r) ≡ Answers r x.after = x.answers ∙ ap (λ q. Answers q x.after) (sym reports) in
-      let here : step c.tree c.limits s n (is_refusal r) ≡ Answers r x.after = ap (λ (u : Tree). step u c.limits s n (is_refusal r)) at.of_tree ∙ (ap (λ (l : Limits). step tree l s n (is_refusal r)) at.of_limits ∙ answers) in
+  continues done rest c s e r at =
+      let x = first_next tree limits s e r rest now at.runs in
+      let here = next_of_same tree limits c s e r x.0 at.of_tree at.of_limits x.1 in
       record {
         next = at.refuses.0;
-        after = x.after;
+        after = x.0;
         transition = at.refuses.1;
         is_next = here;
-        answers = answers;
-        there = at_next done rest c s (Step n) r at at.refuses.0 x.after at.refuses.1 (x.runs ∙ ap (λ l. RunsTo l now) (sym later)) (at.refuses.3 x.after here);
+        answers = x.1;
+        there = at_next done rest c s e r at at.refuses.0 x.0 at.refuses.1 x.2 (at.refuses.3 x.0 here);
       }
-  continues done rest c s (Ack n) r at = record {
-    next = at.refuses.0;
-    after = s;
-    transition = at.refuses.1;
-    is_next = refl;
-    answers = refl;
-    there = at_next done rest c s (Ack n) r at at.refuses.0 s at.refuses.1 at.runs (at.refuses.3 s refl);
-  }
-  continues done rest c s Gc r at = record {
-    next = at.refuses.0;
-    after = s;
-    transition = at.refuses.1;
-    is_next = refl;
-    answers = refl;
-    there = at_next done rest c s Gc r at at.refuses.0 s at.refuses.1 at.runs (at.refuses.3 s refl);
-  }
 
   -- the run of the reference machine after an event
   runs_following : (xs : List (Event × Report)) (e : Event) (r : Report) (s after t : State) → IsNext tree limits s e r after → run tree limits after (thread_part xs) ≡ RunsTo (step_reports xs) t →

@@ -38,8 +38,9 @@ use Rattle.simulation.proofs.Instructions.Calls.MethodCalls.{call_alike, call_vi
 use Rattle.simulation.proofs.Instructions.NewObjects.{new_object_alike}
 use Rattle.simulation.specs.ReadySteps.{IsReady, IsAnswerable}
 use Rattle.simulation.proofs.Representation.InitialContents.{initial_represents}
-use Rattle.simulation.proofs.Threads.Steps.{thread_ready, answerable, step_follows, refused_beyond_room}
+use Rattle.simulation.proofs.Threads.Steps.{answerable, step_follows, refused_beyond_room}
 use Rattle.simulation.specs.Rooms.{HasNoRoom}
+use Rattle.simulation.proofs.Threads.NextInstruction.{live_is_ready}
 
 module _ (here : StepContext) (model : MemoryModel here.tree) (name : Names) (m : Frames) (o : Objects) (statics : List Value) (printed : List ℕ) (s : State) (f : StateFrame) (below : List StateFrame) where
   -- by what runs for the instruction
@@ -112,7 +113,7 @@ collection_keeps c s r after transition =
 
 -- a live thread's instruction has a result
 pub thread_is_ready : (c : MachineState) (s : State) → Represents c s → (t left : ℕ) (m : Frames) → slice_get c.threads t ≡ Some (record { thread_status = Live m; steps_left = left }) → IsReady c t m
-thread_is_ready c s r t left m there = thread_ready each_alike c s r t left m there
+thread_is_ready c s r t left m there = live_is_ready each_alike c s r t left m there
 
 -- and so has what it asks of other threads
 pub asked_is_answerable : (c : MachineState) (s : State) → Represents c s → (t left : ℕ) (m : Frames) → slice_get c.threads t ≡ Some (record { thread_status = Live m; steps_left = left }) →

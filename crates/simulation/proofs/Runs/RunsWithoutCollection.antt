@@ -29,17 +29,16 @@ use Rattle.interpreter.proofs.cil_model.Lists.{none_is_some, set_or_was}
 use Rattle.interpreter.specs.object_memory.Spaces.{room_for}
 use Rattle.collector.specs.phase_handshake.Handshakes.{Handshakes, first_handshakes, first_seat, join_thread, own_phase, seat_of}
 use Rattle.collector.specs.phase_handshake.declared.posts.Seat.{Seat}
-use Rattle.interpreter.specs.loaded_program.MethodNumbers.{number_of}
 use Rattle.interpreter.specs.Instructions.{Answer}
 use Rattle.simulation.specs.MachineStates.{MachineState}
 use Rattle.simulation.specs.Rooms.{HasNoRoom, spaces_of}
 use Rattle.simulation.specs.Runs.{AreSteps, IsRunOf, RefusesBeyondRoom}
 use Rattle.simulation.specs.Refines.{Represents}
-use Rattle.simulation.specs.Transitions.{IsTransition, machine_state_at, left_by, initial_machine_state, seats_after}
+use Rattle.simulation.specs.Transitions.{IsTransition, left_by, initial_machine_state, seats_after}
 use Rattle.simulation.proofs.Instructions.Correspondence.{InstructionsAreAlike}
 use Rattle.simulation.proofs.CollectedHeap.MemoryWithRoom.{room_seen}
 use Rattle.simulation.proofs.Threads.StepEffects.{HasBegun, IsFinished, finished_by, same_program, step_by}
-use Rattle.simulation.proofs.Representation.InitialContents.{initial_represents}
+use Rattle.simulation.proofs.Representation.InitialContents.{initially, opened_represents}
 use Rattle.simulation.proofs.Threads.Steps.{step_follows}
 
 -- ---- seats
@@ -181,15 +180,7 @@ module _ (tree : Tree) (limits : Limits) where
       by_seat (suc k) e = none_after (MOST_THREADS - 1) k e
 
   opened_first : (c : MachineState) → initial_machine_state tree limits ≡ Some c → IsFirst c
-  opened_first c e = by_entry (slice_get (entry_points tree) 0) e
-    where
-      by_number : (entry : ClassName × Method) (n : Option ℕ) → option_map (machine_state_at tree limits entry) n ≡ Some c → IsFirst c
-      by_number entry None h = none_is_some c h
-      by_number entry (Some n) h = subst IsFirst (same_Some (machine_state_at tree limits entry n) c h) (record { tree_is = refl; limits_are = refl; between = first_between; room = all_free limits.words })
-
-      by_entry : (entry : Option (ClassName × Method)) → option_and_then (λ (x : ClassName × Method). option_map (machine_state_at tree limits x) (number_of tree x)) entry ≡ Some c → IsFirst c
-      by_entry None h = none_is_some c h
-      by_entry (Some entry) h = by_number entry (number_of tree entry) h
+  opened_first = initially tree limits IsFirst (λ entry n. record { tree_is = refl; limits_are = refl; between = first_between; room = all_free limits.words })
 
   opens_empty : (s : State) → initial_state tree limits ≡ Some s → s.objects ≡ []
   opens_empty s e = by_entry (slice_get (entry_points tree) 0) e
@@ -206,13 +197,10 @@ module _ (tree : Tree) (limits : Limits) where
     -- before its first event a machine has all words of its limits
     pub opened_whole : (machine : MachineState) → initial_machine_state tree limits ≡ Some machine → (first : State) → initial_state tree limits ≡ Some first → HasWhole each machine first
     opened_whole machine opens first begins =
-        let opened = initial_represents tree limits accepted in_range in
-        let machine_state : opened.0 ≡ machine = same_Some opened.0 machine (sym opened.2 ∙ opens) in
-        let state : opened.1 ≡ first = same_Some opened.1 first (sym opened.3 ∙ begins) in
         let is_first = opened_first machine opens in
         let none : words_of_all machine.tree first.objects ≡ 0 = ap (words_of_all machine.tree) (opens_empty first begins) in
         record {
-          represents = subst (λ (c : MachineState). Represents c first) machine_state (subst (λ (x : State). Represents opened.0 x) state opened.4);
+          represents = opened_represents tree limits accepted in_range machine opens first begins;
           between = is_first.between;
           whole = all_left is_first.room none (ap (λ (l : Limits). l.words) is_first.limits_are);
         }

@@ -1,5 +1,5 @@
 -- The same events from one machine state have the same reports, and reach the same state of the reference machine.
-use Rattle.std.proofs.Common.{◌≡◌, ℕ, List, [], ◌∷◌, Some, length, refl, sym, ap, ◌∙◌, subst, arith, Option, None, option_and_then, option_map, slice_get}
+use Rattle.std.proofs.Common.{◌≡◌, List, [], ◌∷◌, Some, length, refl, sym, ap, ◌∙◌, subst, arith}
 use Rattle.std.specs.List.{zip}
 use Rattle.std.proofs.lemmas.Option.{same_Some}
 use Rattle.interpreter.specs.cil_model.declared.events.Event.{Event}
@@ -7,37 +7,26 @@ use Rattle.interpreter.specs.cil_model.declared.events.Event.TheVariants.{Step}
 use Rattle.interpreter.specs.cil_model.declared.instructions.Instruction.{Instruction}
 use Rattle.interpreter.specs.cil_model.declared.limits.Limits.{Limits}
 use Rattle.interpreter.specs.cil_model.declared.reports.Report.{Report}
-use Rattle.interpreter.specs.cil_model.Bodies.{entry_points}
-use Rattle.interpreter.specs.cil_model.declared.types.ClassName.{ClassName}
-use Rattle.interpreter.specs.cil_model.declared.trees.Method.{Method}
 use Rattle.interpreter.specs.cil_model.declared.trees.Line.{Line}
 use Rattle.interpreter.specs.cil_model.declared.trees.Tree.{Tree}
 use Rattle.interpreter.specs.resolved_code.ResolvedPrograms.{IsOperation}
 use Rattle.interpreter.specs.resolved_code.declared.operations.Operation.{Operation}
 use Rattle.interpreter.specs.reference_machine.Runs.{RunsTo, is_refusal, run, step_reports, thread_part}
 use Rattle.interpreter.specs.reference_machine.States.{State}
-use Rattle.interpreter.specs.reference_machine.Steps.{Answers, step}
-use Rattle.interpreter.proofs.reference_machine.Runs.JoinedRuns.{first_of, same_state}
-use Rattle.interpreter.proofs.cil_model.Lists.{none_is_some}
-use Rattle.interpreter.specs.loaded_program.MethodNumbers.{number_of}
+use Rattle.interpreter.specs.reference_machine.Steps.{step}
+use Rattle.interpreter.proofs.reference_machine.Runs.JoinedRuns.{same_state}
 use Rattle.simulation.specs.MachineStates.{MachineState}
 use Rattle.simulation.specs.Runs.{IsNext, IsRunOf, RefusesBeyondRoom}
-use Rattle.simulation.specs.Transitions.{IsTransition, machine_state_at, initial_machine_state}
+use Rattle.simulation.specs.Transitions.{IsTransition, initial_machine_state}
 use Rattle.simulation.proofs.Runs.UniqueTransitions.{one_transition}
 use Rattle.simulation.proofs.Threads.StepEffects.{same_program}
-
-no_more : {X : Type 0} (xs : List X) → length xs ≡ 0 → xs ≡ []
-no_more [] h = refl
-no_more (x ∷ xs) h = absurd (omega (arith, h))
+use Rattle.simulation.proofs.Representation.InitialContents.{initially}
+use Rattle.std.proofs.lemmas.List.{nil_from_length}
+use Rattle.interpreter.proofs.reference_machine.Runs.InstructionEffects.{same_after}
+use Rattle.simulation.proofs.Runs.EventByEvent.{first_next, next_of_same}
 
 one_less : {X Y : Type 0} (x : X) (xs : List X) (y : Y) (ys : List Y) → length (x ∷ xs) ≡ length (y ∷ ys) → length xs ≡ length ys
 one_less x xs y ys h = omega (arith, h)
-
-same_head : (a b : Report) (as' bs : List Report) → a ∷ as' ≡ b ∷ bs → a ≡ b
-same_head a b as' bs e = cc
-
-same_tail : (a b : Report) (as' bs : List Report) → a ∷ as' ≡ b ∷ bs → as' ≡ bs
-same_tail a b as' bs e = cc
 
 module _ (tree : Tree) (limits : Limits) (one : (lines : List Line) (i : Instruction) (o p : Operation) → IsOperation tree lines i o → IsOperation tree lines i p → o ≡ p) where
   -- a machine state of this program within these limits
@@ -64,26 +53,18 @@ module _ (tree : Tree) (limits : Limits) (one : (lines : List Line) (i : Instruc
     pub later : ResultsIn next after events t
 
   follows : (c : MachineState) (s : State) (e : Event) (r : Report) (events : List (Event × Report)) (t : State) → IsOf c → (h : ResultsIn c s ((e, r) ∷ events) t) → Follows c h.refuses.0 s e r events t
-  follows c s (Step n) r events t of h =
-      let x = first_of tree limits s (n, is_refusal r) (thread_part events) (r ∷ step_reports events) t h.runs in
-      let reports : r ≡ x.report = same_head r x.report (step_reports events) x.later x.are in
-      let rest : step_reports events ≡ x.later = same_tail r x.report (step_reports events) x.later x.are in
-      let answers : step tree limits s n (is_refusal r) ≡ Answers r x.after = x.answers ∙ ap (λ q. Answers q x.after) (sym reports) in
-      let here : step c.tree c.limits s n (is_refusal r) ≡ Answers r x.after = ap (λ (u : Tree). step u c.limits s n (is_refusal r)) of.0 ∙ (ap (λ (l : Limits). step tree l s n (is_refusal r)) of.1 ∙ answers) in
-      record { after = x.after; is_next = answers; later = record { runs = x.runs ∙ ap (λ l. RunsTo l t) (sym rest); last = h.last; refuses = h.refuses.3 x.after here } }
-  follows c s _ r events t of h = record { after = s; is_next = refl; later = record { runs = h.runs; last = h.last; refuses = h.refuses.3 s refl } }
+  follows c s e r events t of h =
+      let x = first_next tree limits s e r events t h.runs in
+      record { after = x.0; is_next = x.1; later = record { runs = x.2; last = h.last; refuses = h.refuses.3 x.0 (next_of_same tree limits c s e r x.0 of.0 of.1 x.1) } }
 
   -- after the same event with the same report the state is the same
   next_once : (s : State) (e : Event) (r r' : Report) (t u : State) → r ≡ r' → IsNext tree limits s e r t → IsNext tree limits s e r' u → t ≡ u
   next_once s (Step n) r r' t u same h k = same_after r r' t u (sym h ∙ (ap (λ q. step tree limits s n (is_refusal q)) same ∙ k))
-    where
-      same_after : (r q : Report) (s t : State) → Answers r s ≡ Answers q t → s ≡ t
-      same_after r q s t e = cc
   next_once s _ r r' t u same h k = h ∙ sym k
 
   one_from : (events : List Event) (reports reports' : List Report) → length reports ≡ length events → length reports' ≡ length events → (c : MachineState) (s t t' : State) → IsOf c
       → ResultsIn c s (zip events reports) t → ResultsIn c s (zip events reports') t' → (reports ≡ reports') × (t ≡ t')
-  one_from [] rs rs' each each' c s t t' of h h' = (no_more rs each ∙ sym (no_more rs' each'), sym (same_state [] [] s t h.runs) ∙ same_state [] [] s t' h'.runs)
+  one_from [] rs rs' each each' c s t t' of h h' = (nil_from_length rs each ∙ sym (nil_from_length rs' each'), sym (same_state [] [] s t h.runs) ∙ same_state [] [] s t' h'.runs)
   one_from (e ∷ es) [] rs' each each' c s t t' of h h' = absurd (omega (arith, each))
   one_from (e ∷ es) (r ∷ rs) [] each each' c s t t' of h h' = absurd (omega (arith, each'))
   one_from (e ∷ es) (r ∷ rs) (r' ∷ rs') each each' c s t t' of h h' =
@@ -99,17 +80,7 @@ module _ (tree : Tree) (limits : Limits) (one : (lines : List Line) (i : Instruc
       (ap (λ q. q ∷ rs) reports ∙ ap (λ l. r' ∷ l) more.0, more.1)
 
   of_opened : (c : MachineState) → initial_machine_state tree limits ≡ Some c → IsOf c
-  of_opened c e = by_entry (slice_get (entry_points tree) 0) e
-    where
-      by_number : (entry : ClassName × Method) (n : Option ℕ) → option_map (machine_state_at tree limits entry) n ≡ Some c → IsOf c
-      by_number entry None h = none_is_some c h
-      by_number entry (Some n) h =
-          let same = same_Some (machine_state_at tree limits entry n) c h in
-          (sym (ap (λ (x : MachineState). x.tree) same), sym (ap (λ (x : MachineState). x.limits) same))
-
-      by_entry : (entry : Option (ClassName × Method)) → option_and_then (λ (x : ClassName × Method). option_map (machine_state_at tree limits x) (number_of tree x)) entry ≡ Some c → IsOf c
-      by_entry None h = none_is_some c h
-      by_entry (Some entry) h = by_number entry (number_of tree entry) h
+  of_opened = initially tree limits IsOf (λ entry n. (refl, refl))
 
   -- the same events have one run
   pub runs_are_one : (events : List Event) (reports reports' : List Report) (s s' : State) → IsRunOf tree limits events reports s → IsRunOf tree limits events reports' s' → (reports ≡ reports') × (s ≡ s')

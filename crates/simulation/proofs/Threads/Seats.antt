@@ -1,7 +1,7 @@
 -- Which seat each thread has once the seat of one is changed.
 -- What the end of a thread, the start of another and an acknowledgement leave of the seats of threads.
-use Rattle.std.proofs.Common.{◌≡◌, ◌⊎◌, ◌==◌, ℕ, zero, suc, Bool, true, false, List, ◌∷◌, Option, Some, option_and_then, slice_get, slice_set, refl, inl, inr, sym, ap, ◌∙◌, ◌<◌, ◌-◌, [], ◌++◌, length, replicate, get_or, None, arith}
-use Rattle.std.proofs.lemmas.Bool.{eqb-true, eq-eqb}
+use Rattle.std.proofs.Common.{◌≡◌, ◌⊎◌, ℕ, zero, suc, true, false, List, ◌∷◌, Option, Some, option_and_then, slice_get, slice_set, refl, inl, inr, sym, ap, ◌∙◌, ◌<◌, ◌-◌, [], ◌++◌, length, replicate, get_or, None, arith}
+use Rattle.std.proofs.lemmas.Bool.{cases_eq}
 use Rattle.std.proofs.lemmas.Option.{same_Some, slice_get-get_or}
 use Rattle.interpreter.proofs.cil_model.Lists.{set_is_there, last_is_there, none_is_some, set_or_was}
 use Rattle.interpreter.proofs.cil_model.SameLaws.{never}
@@ -26,14 +26,6 @@ use Rattle.simulation.specs.Transitions.{live_thread, seats_after}
 
 -- ---- indices of lists
 
--- two indices are one, or they differ
-pub same_or_other : (n t : ℕ) → (n ≡ t) ⊎ (n ≡ t → ⊥)
-same_or_other n t = by_test (n == t) refl
-  where
-    by_test : (b : Bool) → (n == t) ≡ b → (n ≡ t) ⊎ (n ≡ t → ⊥)
-    by_test true e = inl (eqb-true n t e)
-    by_test false e = inr (λ k. never (sym e ∙ eq-eqb n t k))
-
 -- a change leaves every other item
 pub set_other : {X : Type 0} (xs : List X) (t n : ℕ) (x : X) → (n ≡ t → ⊥) → slice_get (slice_set xs t x) n ≡ slice_get xs n
 set_other (y ∷ ys) zero zero x other = absurd (other refl)
@@ -56,7 +48,7 @@ module _ (h : Handshakes) (t : ℕ) (next : Seat) where
 
   -- so each seat is the new one or as it was
   pub seat_cases : (s : Seat) → seat_of h t ≡ Some s → (n : ℕ) (x : Seat) → seat_of after n ≡ Some x → ((n ≡ t) × (x ≡ next)) ⊎ ((n ≡ t → ⊥) × (seat_of h n ≡ Some x))
-  seat_cases s here n x is = by_index (same_or_other n t)
+  seat_cases s here n x is = by_index (cases_eq n t)
     where
       by_index : (n ≡ t) ⊎ (n ≡ t → ⊥) → ((n ≡ t) × (x ≡ next)) ⊎ ((n ≡ t → ⊥) × (seat_of h n ≡ Some x))
       by_index (inl same) = inl (same, same_Some x next (sym is ∙ ap (seat_of after) same ∙ own_seat s here))
@@ -133,7 +125,7 @@ module _ (h : Handshakes) (threads : List Thread) (fit : AreSeated h threads) wh
 
   -- one that has ended, without a seat
   pub ended_fits : (t : ℕ) (x : Thread) → is_live x ≡ false → AreSeated (without_seat h t) (slice_set threads t x)
-  ended_fits t x ended = record { close = left_close h fit.close t; live = λ n. lives n (same_or_other n t) }
+  ended_fits t x ended = record { close = left_close h fit.close t; live = λ n. lives n (cases_eq n t) }
     where
       lives : (n : ℕ) → (n ≡ t) ⊎ (n ≡ t → ⊥) → is_live_at (slice_set threads t x) n ≡ is_some (seat_of (without_seat h t) n)
       lives n (inl same) =
@@ -157,7 +149,7 @@ module _ (h : Handshakes) (threads : List Thread) (fit : AreSeated h threads) wh
 
   -- it has its starter's seat
   pub begun_fits : (t : ℕ) (new : Thread) → is_live new ≡ true → length threads < MOST_THREADS → is_live_at threads t ≡ true → AreSeated (join_thread h (length threads) t) (threads ++ new ∷ [])
-  begun_fits t new lives room there = record { close = joined_close h fit.close (length threads) t; live = λ n. live n (same_or_other n (length threads)) }
+  begun_fits t new lives room there = record { close = joined_close h fit.close (length threads) t; live = λ n. live n (cases_eq n (length threads)) }
     where
       inside : length threads < length h.seats
       inside = let indices = fit.close.indices in omega (arith, room, indices)

@@ -28,7 +28,7 @@ use Rattle.interpreter.proofs.cil_model.Lists.{last_is_there}
 use Rattle.interpreter.proofs.cil_model.SameLaws.{never}
 use Rattle.collector.proofs.PhaseChanges.StaticFlips.{set_here_or_there}
 use Rattle.simulation.proofs.CollectedHeap.CollectedMemory.{others_may_hold, own_may_hold, frames_are_held}
-use Rattle.simulation.proofs.Threads.Seats.{same_or_other, append_other, counted_posts, counted_seat, set_seat, other_seat}
+use Rattle.simulation.proofs.Threads.Seats.{append_other, counted_posts, counted_seat, set_seat, other_seat}
 use Rattle.simulation.proofs.Threads.LiveThreads.{FitsOwn, normally, own_passes, seat, seat_there, KeepsOwnNames, fits_of, names_of, own_memory, own_model, own_names, room_of}
 use Rattle.std.proofs.lemmas.Bool.Decides.{nat_tests}
 use Rattle.interpreter.specs.cil_model.declared.reports.End.{End}
@@ -56,6 +56,7 @@ use Rattle.simulation.proofs.CollectedHeap.VisibleNames.{own_extends}
 use Rattle.simulation.proofs.Memory.MemoryModels.{IsModelled}
 use Rattle.simulation.proofs.CollectedHeap.MemoryWithRoom.{KeepsRoom}
 use Rattle.interpreter.specs.Instructions.{Answer}
+use Rattle.std.proofs.lemmas.Bool.{cases_eq}
 
 -- nothing stands past the end of a list
 past_end : {X : Type 0} (xs : List X) → slice_get xs (length xs) ≡ None
@@ -101,7 +102,7 @@ module _ (c : MachineState) (s : State) (r : Represents c s) (t left : ℕ) (m :
         posts = refl;
         own = other_seat c.posts (length c.threads) t (seat_of c.posts t) earlier ∙ (seat_there c s r t left m there).1;
         were = λ n x is. elim (set_seat c.posts (length c.threads) n (seat_of c.posts t) x is) [ inl new' ↦ (t, new') | inr was ↦ (n, was) ];
-        others = λ n left' fs x apart at is a listed. elim (same_or_other n (length c.threads)) [
+        others = λ n left' fs x apart at is a listed. elim (cases_eq n (length c.threads)) [
           | inl same ↦ of_new n left' fs x same at is a listed
           | inr other ↦ held_still n left' fs x (sym (append_other c.threads n new other) ∙ at) (sym (other_seat c.posts (length c.threads) n (seat_of c.posts t) other) ∙ is) a listed
         ];

@@ -25,8 +25,8 @@ use Rattle.simulation.specs.Refines.{IsThread, StatusRefines, Represents}
 use Rattle.simulation.specs.Transitions.{IsStatusTransition, IsThreadTransition, IsTransition, finish_step}
 use Rattle.simulation.proofs.ListLaws.AgreeingLists.{agree_at, agree_get}
 use Rattle.simulation.proofs.Instructions.Correspondence.{InstructionsAreAlike, EffectsAlike, is_refused_effect, is_refused_outcome, HasNoOwnRoom}
-use Rattle.simulation.specs.ReadySteps.{IsReady, IsAnswerable}
-use Rattle.simulation.proofs.Threads.NextInstruction.{setting_of, is_alive, does_alike, live_is_ready, is_running}
+use Rattle.simulation.specs.ReadySteps.{IsAnswerable}
+use Rattle.simulation.proofs.Threads.NextInstruction.{setting_of, is_alive, does_alike, is_running}
 use Rattle.simulation.proofs.Threads.StepResults.{Follows, KeepsOwnRoom, done, gives, step_is}
 use Rattle.simulation.proofs.Threads.Requests.{here, running, below, Asks, asked_of, has_operand, index_below}
 use Rattle.simulation.proofs.Threads.Joins.{joins}
@@ -142,10 +142,6 @@ module _ (each : InstructionsAreAlike) (c : MachineState) (s : State) (r : Repre
 -- ---- all
 
 module _ (each : InstructionsAreAlike) where
-  -- a live thread is ready
-  pub thread_ready : (c : MachineState) (s : State) → Represents c s → (t left : ℕ) (m : Frames) → slice_get c.threads t ≡ Some (record { thread_status = Live m; steps_left = left }) → IsReady c t m
-  thread_ready c s r t left m there = live_is_ready each c s r t left m there
-
   -- a step has the same outcome on both, and keeps the room and the words of all objects together, and names
   pub step_names : (c : MachineState) (s : State) (r : Represents c s) (t : ℕ) (after : MachineState × Report) → IsTransition c (Step t) after →
       (s' : State) × (step c.tree c.limits s t (is_refusal after.1) ≡ Answers after.1 s') × (r' : Represents after.0 s') × KeepsOwnRoom c s t after.0.objects s' × KeepsOwnNames c s r after.0.objects r'.refines.name
