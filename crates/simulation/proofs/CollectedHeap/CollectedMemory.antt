@@ -20,7 +20,7 @@ use Rattle.collector.proofs.ThreadReferences.LiveValues.{may_hold_then, IsShort,
 use Rattle.collector.proofs.ThreadReferences.StorableValues.{monitor_is_storable, other_is_alike, word_is_storable}
 use Rattle.simulation.specs.Refines.{AreFrames, Names, IsCell, IsValue, IsWord, null_reference, reference}
 use Rattle.simulation.proofs.Memory.MemoryModels.{MemoryModel}
-use Rattle.simulation.proofs.Representation.RootReferences.{roots_pass, thread_cut}
+use Rattle.simulation.proofs.Representation.RootReferences.{roots_pass, frames_kept}
 use Rattle.simulation.proofs.CollectedHeap.VisibleNames.{FitsCollected, collected_reads, first_hold, named_passes, permanent_passes, named_held, named_small, named_whole, own_extends, collected_comparable, collected_name_null, collected_null_name, collected_same, collected_same_null, early_beside}
 use Rattle.simulation.proofs.CollectedHeap.HeapChanges.{collected_beside, collected_statics, first_fits, marked_refines, collected_static_storable, collected_static_stores, beside_heap, value_held}
 use Rattle.simulation.proofs.CollectedHeap.LiteralMonitors.{collected_literals}
@@ -394,7 +394,7 @@ module _ (tree : Tree) (words : ℕ) (h : Handshakes) (p : Progress) (seat : Sea
     (limits : Limits) (m : Frames) (gs : List StateFrame) where
   -- frames that hold what the thread may hold stand under its own names,
   pub frames_cut : AreFrames tree limits fits.whole m gs → ((a : Addr) → IsListed (roots m) a → passes (first_hold h seat first) h.posted_phase o.spaces a ≡ true) → AreFrames tree limits name m gs
-  frames_cut refines pass = thread_cut (passes (first_hold h seat first) h.posted_phase o.spaces) fits.whole name fits.is_cut tree limits m gs refines pass
+  frames_cut refines pass = frames_kept (passes (first_hold h seat first) h.posted_phase o.spaces) fits.whole name (λ a n held is. fits.is_cut a n is held) tree limits m gs refines pass
 
   -- and frames that stand under them hold what it may hold
   pub frames_are_held : AreFrames tree limits name m gs → (a : Addr) → IsListed (roots m) a → passes (first_hold h seat first) h.posted_phase o.spaces a ≡ true

@@ -48,7 +48,7 @@ use Rattle.collector.proofs.HeapStores.StaticStores.{static_fits, value_for_stat
 use Rattle.collector.proofs.ThreadReferences.StorableValues.{static_is_storable}
 use Rattle.collector.proofs.HeapStores.StoreSoundness.{IsBesideHeap}
 use Rattle.simulation.specs.Agreement.{Agree}
-use Rattle.simulation.proofs.Representation.MoreNames.{value_extends}
+use Rattle.simulation.proofs.Representation.MoreNames.{value_extends, value_renamed}
 
 -- ---- values
 
@@ -64,11 +64,7 @@ module _ (tree : Tree) (words : ℕ) (h : Handshakes) (p : Progress) (seat : Sea
 
   -- and one that may be held stands under them
   value_is_cut : (v : Value) (u : StateValue) → ValuePasses (passes hold h.posted_phase o.spaces) v → IsValue fits.whole v u → IsValue name v u
-  value_is_cut v u pass (int32 z fits') = int32 z fits'
-  value_is_cut v u pass (int64 z fits') = int64 z fits'
-  value_is_cut v u pass (native z fits') = native z fits'
-  value_is_cut v u pass null_reference = null_reference
-  value_is_cut v u pass (reference a n is) = reference a n (fits.is_cut a.number n is pass)
+  value_is_cut v u pass = value_renamed fits.whole name v u (λ a n is _ named. fits.is_cut a.number n named (subst (ValuePasses (passes hold h.posted_phase o.spaces)) is pass))
 
   -- ---- static fields
 
@@ -321,14 +317,10 @@ forwarded_refines tree words h p seat first all name o ss s fits late v u null_r
 forwarded_refines tree words h p seat first all name o ss s fits late v u (reference a n is) =
     reference (forward o.spaces a) n (forward_named tree h.posted_phase h.has_round words p o.spaces fits.sound late fits.whole fits.heap.small fits.filled a n is)
 
--- they have them beside a thread in PreFlip, and one in HeapFlip
-pre_flip_late : (posted_phase : Phase) → IsBesidePhase PreFlip posted_phase → has_words posted_phase ≡ true
-pre_flip_late posted_phase (inl now) = ap has_words (sym now)
-pre_flip_late posted_phase (inr late) = ap has_words (sym late)
-
-heap_flip_late : (posted_phase : Phase) → IsBesidePhase HeapFlip posted_phase → has_words posted_phase ≡ true
-heap_flip_late posted_phase (inl now) = ap has_words (sym now)
-heap_flip_late posted_phase (inr late) = ap has_words (sym late)
+-- they have them beside a thread in a phase in which they have them, and in the next one
+late_beside : (own posted_phase : Phase) → has_words own ≡ true → has_words (phase_after own) ≡ true → IsBesidePhase own posted_phase → has_words posted_phase ≡ true
+late_beside own posted_phase now next (inl same) = ap has_words (sym same) ∙ now
+late_beside own posted_phase now next (inr after) = ap has_words (sym after) ∙ next
 
 -- ---- the heap beside a thread
 
@@ -404,7 +396,7 @@ module _ (tree : Tree) (words : ℕ) (h : Handshakes) (p : Progress) (seat : Sea
         by_phase Mark e = marked e (fit Mark e)
         by_phase Allocate e = plain (fit Allocate e)
         by_phase Copy e = plain (fit Copy e)
-        by_phase PreFlip e = flipped (pre_flip_late h.posted_phase (beside_own PreFlip e)) (fit PreFlip e)
-        by_phase HeapFlip e = flipped (heap_flip_late h.posted_phase (beside_own HeapFlip e)) (fit HeapFlip e)
+        by_phase PreFlip e = flipped (late_beside PreFlip h.posted_phase refl refl (beside_own PreFlip e)) (fit PreFlip e)
+        by_phase HeapFlip e = flipped (late_beside HeapFlip h.posted_phase refl refl (beside_own HeapFlip e)) (fit HeapFlip e)
         by_phase ThreadFlip e = plain (fit ThreadFlip e)
         by_phase Reclaim e = plain (fit Reclaim e)

@@ -14,21 +14,16 @@ use Rattle.interpreter.specs.object_memory.declared.values.Value.{Value}
 use Rattle.interpreter.specs.object_memory.Values.{value_word}
 use Rattle.collector.specs.References.{holds_reference}
 use Rattle.simulation.specs.Agreement.{Agree}
-use Rattle.simulation.specs.Refines.{Names, IsValue, int32, int64, native, null_reference, reference, IsWord, IsInstanceCell, IsOfContents, thread_word}
+use Rattle.simulation.specs.Refines.{Names, IsValue, null_reference, reference, IsWord, IsInstanceCell, IsOfContents, thread_word}
 use Rattle.simulation.proofs.ListLaws.AgreeingLists.{agree_at, agree_get, agree_length}
 use Rattle.simulation.proofs.Memory.ReferenceSlots.{IsLinked, hidden_says, is_reference_state, following_slot}
+use Rattle.simulation.proofs.Representation.MoreNames.{value_renamed}
 
 -- ---- values under other names
 
 -- an integer stands under any names
 pub integer_refines : (name names : Names) (w : ℕ) (u : StateValue) → is_reference_state u ≡ false → IsWord name w u → IsWord names w u
-integer_refines name names w u sort h = record { value = h.value; refines = by_value h.value u sort h.refines; is = h.is }
-  where
-    by_value : (v : _) (u : StateValue) → is_reference_state u ≡ false → IsValue name v u → IsValue names v u
-    by_value v u sort (int32 z fits) = int32 z fits
-    by_value v u sort (int64 z fits) = int64 z fits
-    by_value v u sort (native z fits) = native z fits
-    by_value v u sort _ = never (sym sort)
+integer_refines name names w u sort h = record { value = h.value; refines = value_renamed name names h.value u (λ a n _ is named. never (sym sort ∙ ap is_reference_state is)) h.refines; is = h.is }
 
 -- ---- other words
 

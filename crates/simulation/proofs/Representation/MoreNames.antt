@@ -5,7 +5,7 @@ use Rattle.interpreter.specs.cil_model.declared.limits.Limits.{Limits}
 use Rattle.interpreter.specs.cil_model.declared.trees.Tree.{Tree}
 use Rattle.interpreter.specs.cil_model.declared.reports.End.{End}
 use Rattle.interpreter.specs.cil_model.Fields.{FieldKey}
-use Rattle.interpreter.specs.reference_machine.Values.{ObjectName, Value as StateValue}
+use Rattle.interpreter.specs.reference_machine.Values.{ObjectName, Value as StateValue, Reference}
 use Rattle.interpreter.specs.reference_machine.States.{Contents, Instance as IsInstance, Array as IsArray, HeapObject, Frame as StateFrame, Thread as StateThread}
 use Rattle.interpreter.specs.object_memory.declared.addresses.Addr.{Addr}
 use Rattle.interpreter.specs.object_memory.declared.kinds.Kind.{Kind}
@@ -27,14 +27,19 @@ use Rattle.interpreter.specs.reference_machine.Effects.{new_frame}
 use Rattle.interpreter.specs.loaded_program.AllMethods.{all_methods}
 use Rattle.simulation.specs.Transitions.{thread_at}
 use Rattle.simulation.proofs.Memory.InitialValues.{locals_refine}
+use Rattle.interpreter.specs.object_memory.declared.values.Value.TheVariants.{Ref}
+
+-- a value represents the same under other names, where a reference has the same name under them
+pub value_renamed : (name names : Names) (v : Value) (u : StateValue) → ((a : Addr) (n : ObjectName) → v ≡ Ref a → u ≡ Reference n → name a.number ≡ Some n → names a.number ≡ Some n) → IsValue name v u → IsValue names v u
+value_renamed name names v u keeps (int32 z fits) = int32 z fits
+value_renamed name names v u keeps (int64 z fits) = int64 z fits
+value_renamed name names v u keeps (native z fits) = native z fits
+value_renamed name names v u keeps null_reference = null_reference
+value_renamed name names v u keeps (reference a n is) = reference a n (keeps a n refl refl is)
 
 module _ (name names : Names) (extends : Extends name names) where
   pub value_extends : (v : Value) (u : StateValue) → IsValue name v u → IsValue names v u
-  value_extends v u (int32 z fits) = int32 z fits
-  value_extends v u (int64 z fits) = int64 z fits
-  value_extends v u (native z fits) = native z fits
-  value_extends v u null_reference = null_reference
-  value_extends v u (reference a n is) = reference a n (extends a.number n is)
+  value_extends v u = value_renamed name names v u (λ a n _ _. extends a.number n)
 
   pub values_extend : (vs : List Value) (us : List StateValue) → Agree (IsValue name) vs us → Agree (IsValue names) vs us
   values_extend = agree_weaken (IsValue name) (IsValue names) value_extends

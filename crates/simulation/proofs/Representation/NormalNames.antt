@@ -36,6 +36,7 @@ use Rattle.simulation.proofs.Memory.ReferenceSlots.{kind_of_state, is_reference_
 use Rattle.simulation.proofs.Representation.RenamedSlots.{ShowAlike, contents_shown}
 use Rattle.simulation.proofs.Memory.NamedAddresses.{born_renamed}
 use Rattle.interpreter.proofs.loaded_program.OperandLaws.{if_some}
+use Rattle.simulation.proofs.Representation.MoreNames.{value_renamed}
 
 -- What is named is live, and the new copy of a named old object has its name where it is live too.
 pub record IsNormal (posted_phase : Phase) (m : Spaces) (name : Names) : Type 0 where
@@ -269,14 +270,12 @@ module _ (tree : Tree) (posted_phase : Phase) (has_round : Bool) (words : ℕ) (
 
       -- a word that refers to what is live stands as it is,
       word_named : (word : ℕ) (u : StateValue) → is_live posted_phase m (reference_in word) ≡ true → IsWord name word u → IsWord names word u
-      word_named word u live h = record { value = h.value; refines = by_value h.value u h.refines (subst (λ w. is_live posted_phase m (reference_in w) ≡ true) (sym h.is) live); is = h.is }
-        where
-          by_value : (v : Value) (x : StateValue) → IsValue name v x → is_live posted_phase m (reference_in (value_word v)) ≡ true → IsValue names v x
-          by_value v x (int32 z fits) l = int32 z fits
-          by_value v x (int64 z fits) l = int64 z fits
-          by_value v x (native z fits) l = native z fits
-          by_value v x null_reference l = null_reference
-          by_value v x (reference a n is) l = reference a n (is_filled posted_phase m name a.number n (subst (λ x. is_live posted_phase m x ≡ true) (again a n is) l) is)
+      word_named word u live h = record {
+        value = h.value;
+        refines = value_renamed name names h.value u
+            (λ a n is _ named. is_filled posted_phase m name a.number n (subst (λ x. is_live posted_phase m x ≡ true) (again a n named) (subst (λ w. is_live posted_phase m (reference_in w) ≡ true) (sym h.is ∙ ap value_word is) live)) named) h.refines;
+        is = h.is;
+      }
 
       -- and so does its forward
       word_forwarded : has_words posted_phase ≡ true → (word : ℕ) (u : StateValue) → is_reference_kind (kind_of_state u) ≡ true → is_live posted_phase m (reference_in word) ≡ true → IsWord name word u → IsWord names (forward_word m word) u

@@ -16,11 +16,12 @@ use Rattle.interpreter.specs.object_memory.declared.values.Value.{Value}
 use Rattle.reference_machine.specs.TypedStates.{AllHaveType, HasType, HaveFieldTypes, IsTypedContents}
 use Rattle.collector.specs.References.{holds_reference}
 use Rattle.simulation.specs.Agreement.{Agree}
-use Rattle.simulation.specs.Refines.{Names, IsValue, int32, int64, native, null_reference, reference, IsWord, IsInstanceCell, IsOfContents, hidden_words, thread_word}
+use Rattle.simulation.specs.Refines.{Names, IsValue, reference, IsWord, IsInstanceCell, IsOfContents, hidden_words, thread_word}
 use Rattle.simulation.proofs.ListLaws.AgreeingLists.{agree_get, agree_length}
 use Rattle.simulation.proofs.Memory.ReferenceSlots.{kind_fits, kind_of_state, element_says, hidden_says, is_reference_kind, slot_says}
 use Rattle.interpreter.proofs.cil_model.Lists.{get_after, get_before, none_is_some}
 use Rattle.interpreter.proofs.cil_model.SameLaws.{never}
+use Rattle.simulation.proofs.Representation.MoreNames.{value_renamed}
 
 -- ---- lists
 
@@ -51,11 +52,7 @@ pub record ShowAlike (tree : Tree) (name names : Names) (kind : Kind) (slots sho
 
 -- an integer has no name
 integer_value : (name names : Names) (v : Value) (u : StateValue) → is_reference_kind (kind_of_state u) ≡ false → IsValue name v u → IsValue names v u
-integer_value name names v u integer (int32 z fits) = int32 z fits
-integer_value name names v u integer (int64 z fits) = int64 z fits
-integer_value name names v u integer (native z fits) = native z fits
-integer_value name names v u integer null_reference = null_reference
-integer_value name names v u integer (reference a n is) = never (sym integer)
+integer_value name names v u integer = value_renamed name names v u (λ a n _ is named. never (sym integer ∙ ap (λ x. is_reference_kind (kind_of_state x)) is))
 
 module _ (tree : Tree) (legal : IsLegal tree) (s : State) (name names : Names) where
   -- a slot of each kind

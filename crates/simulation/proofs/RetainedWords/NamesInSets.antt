@@ -1,5 +1,5 @@
 -- Where the roots and the objects of a set refer to objects of the set alone, what a machine represents it represents under their names alone too.
-use Rattle.std.proofs.Common.{◌≡◌, ℕ, suc, Bool, true, false, if◌then◌else◌, List, [], ◌∷◌, Option, Some, None, slice_get, refl, sym, ap, ◌∙◌}
+use Rattle.std.proofs.Common.{◌≡◌, ℕ, suc, Bool, true, false, if◌then◌else◌, List, [], ◌∷◌, Option, Some, None, slice_get, refl, sym, ap, ◌∙◌, subst}
 use Rattle.std.specs.Prelude.{option_and_then}
 use Rattle.std.specs.List.{AllByRecursion}
 use Rattle.interpreter.specs.cil_model.declared.limits.Limits.{Limits}
@@ -24,8 +24,9 @@ use Rattle.reference_machine.proofs.ReachableObjects.States.{AreFramesWithin, Ho
 use Rattle.reference_machine.proofs.ReachableObjects.Values.{AreWithin, IsWithin, values_of}
 use Rattle.simulation.specs.Agreement.{Agree}
 use Rattle.simulation.specs.MachineStates.{MachineState}
-use Rattle.simulation.specs.Refines.{IsBornAt, IsFrame, IsHeap, IsObject, IsOfContents, IsThread, IsValue, IsWord, Names, StatusRefines, RefinesUnder, int32, int64, native, null_reference, reference}
+use Rattle.simulation.specs.Refines.{IsBornAt, IsFrame, IsHeap, IsObject, IsOfContents, IsThread, IsValue, IsWord, Names, StatusRefines, RefinesUnder, reference}
 use Rattle.simulation.proofs.Memory.NamedAddresses.{born_renamed}
+use Rattle.simulation.proofs.Representation.MoreNames.{value_renamed}
 
 -- lists whose elements stand in a relation stand in another one that follows for those of the second list
 agree_within : {A B : Type 0} (P : B → Type 0) (R S : A → B → Type 0) → ((x : A) (y : B) → P y → R x y → S x y) → (xs : List A) (ys : List B) → AllByRecursion P ys → Agree R xs ys → Agree S xs ys
@@ -78,11 +79,7 @@ module _ (is_inside : ℕ → Bool) where
       -- ---- values
 
       value_cut : (v : Value) (u : StateValue) → IsWithin Inside u → IsValue name v u → IsValue (cut_inside name) v u
-      value_cut v u within (int32 z fits) = int32 z fits
-      value_cut v u within (int64 z fits) = int64 z fits
-      value_cut v u within (native z fits) = native z fits
-      value_cut v u within null_reference = null_reference
-      value_cut v u within (reference a n is) = reference a n (is_cut_inside name a.number n (reference_inside n within) is)
+      value_cut v u within = value_renamed name (cut_inside name) v u (λ a n _ is. is_cut_inside name a.number n (reference_inside n (subst (IsWithin Inside) is within)))
 
       values_cut : (vs : List Value) (us : List StateValue) → AreWithin Inside us → Agree (IsValue name) vs us → Agree (IsValue (cut_inside name)) vs us
       values_cut = agree_within (IsWithin Inside) (IsValue name) (IsValue (cut_inside name)) value_cut

@@ -32,7 +32,7 @@ use Rattle.simulation.specs.Transitions.{after_request, count_step, start_thread
 use Rattle.simulation.proofs.ListLaws.AgreeingLists.{agree_append, agree_length, agree_weaken}
 use Rattle.simulation.proofs.Instructions.Correspondence.{is_refused_fault}
 use Rattle.simulation.proofs.ProgramSizes.LimitRanges.{depth_is_some}
-use Rattle.simulation.proofs.Threads.StepResults.{Follows, done, finish, frames_pass, frames_whole, going_pass, gives, FramesPass, beside_more}
+use Rattle.simulation.proofs.Threads.StepResults.{Follows, done, finish, frames_pass, charged_pass, frames_whole, gives, FramesPass, beside_more}
 use Rattle.simulation.proofs.Representation.MoreNames.{beginning_refines, thread_extends}
 use Rattle.simulation.proofs.Memory.ThreadObjects.{IsThreadObject, thread_on_is, class_at_is, own_class_is}
 use Rattle.simulation.proofs.Threads.Requests.{here, running, below, Asks, IsAskedOf, asked_of, popped_frames, done_typed}
@@ -267,7 +267,7 @@ module _ (c : MachineState) (s : State) (r : Represents c s) (t left : ℕ) (m :
             b.does,
             frames_whole c s r t left m there (own_names c s r t left m there) decoded c.statics begun_state begun_fits (after_request Continues m) (after (running c s r t left m there) rest ∷ below c s r t left m there) popped,
           )
-          (going_pass c s r t left m there (own_names c s r t left m there) decoded c.statics begun_state begun_fits (after_request Continues m) (after (running c s r t left m there) rest ∷ below c s r t left m there) popped)
+          (charged_pass c s r t left m there (own_names c s r t left m there) decoded c.statics begun_state begun_fits (after_request Continues m) (after (running c s r t left m there) rest ∷ below c s r t left m there) popped Continues)
 
   -- ---- Start
 

@@ -3,7 +3,7 @@
 use Rattle.std.proofs.Common.{◌≡◌, ◌<◌, ℕ, true, false, List, [], ◌∷◌, ◌++◌, length, Option, Some, None, slice_get, slice_set, refl, inl, inr, sym, ap, ◌∙◌, subst, arith, ◌-◌, ◌==◌, if◌then◌else◌, is_none, zero, suc, Bool}
 use Rattle.std.specs.Prelude.{is_some}
 use Rattle.std.specs.Option.{option_map_or}
-use Rattle.std.proofs.lemmas.Option.{same_Some, slice_get_within}
+use Rattle.std.proofs.lemmas.Option.{same_Some, slice_get_within, slice_get_past}
 use Rattle.interpreter.specs.cil_model.declared.reports.Report.{Report}
 use Rattle.interpreter.specs.reference_machine.States.{State, Frame as StateFrame, Thread as StateThread}
 use Rattle.interpreter.specs.object_memory.declared.addresses.Addr.{Addr}
@@ -58,11 +58,6 @@ use Rattle.simulation.proofs.CollectedHeap.MemoryWithRoom.{KeepsRoom}
 use Rattle.interpreter.specs.Instructions.{Answer}
 use Rattle.std.proofs.lemmas.Bool.{cases_eq}
 
--- nothing stands past the end of a list
-past_end : {X : Type 0} (xs : List X) → slice_get xs (length xs) ≡ None
-past_end [] = refl
-past_end (x ∷ xs) = past_end xs
-
 -- the references of a thread's frames pass, as long as it is live
 abbrev pub FramesPass : (Addr → Type 0) → ThreadStatus → Type 0
 FramesPass P thread_status = (fs : Frames) → thread_status ≡ Live fs → (a : Addr) → IsListed (roots fs) a → P a
@@ -95,7 +90,7 @@ module _ (c : MachineState) (s : State) (r : Represents c s) (t left : ℕ) (m :
 
       -- no thread had the seat
       free : (x : Seat) → seat_of c.posts (length c.threads) ≡ Some x → ⊥
-      free x is = absurd (never (sym (ap (λ o. option_map_or is_live o false) (past_end c.threads)) ∙ r.sound.seated.live (length c.threads) ∙ ap is_some is))
+      free x is = absurd (never (sym (ap (λ o. option_map_or is_live o false) (slice_get_past c.threads (length c.threads) (omega arith))) ∙ r.sound.seated.live (length c.threads) ∙ ap is_some is))
 
       pub beside_more : AreBeside (c.threads ++ new ∷ []) (join_thread c.posts (length c.threads) t) o
       beside_more = record {
@@ -303,11 +298,8 @@ module _ (c : MachineState) (s : State) (r : Represents c s) (t left : ℕ) (m :
     pub frames_pass : (a : Addr) → IsListed (roots m') a → own_passes c s r t left m there o a
     frames_pass = frames_are_held c.tree c.limits.max_words c.posts c.progress (seat c s r t left m there) c.objects (normally c s r).name names o statics s' fits c.limits m' gs h
 
-    pub going_pass : FramesPass (own_passes c s r t left m there o) (charge Continues (live_thread left m')).0.thread_status
-    going_pass fs e a listed = frames_pass a (subst (λ x. IsListed (roots x) a) (sym (still_live (end_after Continues (left - 1)) m' fs (left - 1) Continues e)) listed)
-
-    pub blocked_pass : FramesPass (own_passes c s r t left m there o) (charge Blocks (live_thread left m')).0.thread_status
-    blocked_pass fs e a listed = frames_pass a (subst (λ x. IsListed (roots x) a) (sym (still_live (end_after Blocks (left - 1)) m' fs (left - 1) Blocks e)) listed)
+    pub charged_pass : (effect : Effect) → FramesPass (own_passes c s r t left m there o) (charge effect (live_thread left m')).0.thread_status
+    charged_pass effect fs e a listed = frames_pass a (subst (λ x. IsListed (roots x) a) (sym (still_live (end_after effect (left - 1)) m' fs (left - 1) effect e)) listed)
 
   -- a thread whose step is charged as its instruction's effect says
   pub finish : (names : Names) (threads base : List Thread) (h : Handshakes) (o : Objects) (statics : List Value) (printed : List ℕ) (s' : State) → ((x : Thread) → slice_set threads t x ≡ slice_set base t x) →
@@ -367,7 +359,7 @@ module _ (c : MachineState) (s : State) (r : Represents c s) (t left : ℕ) (m :
       (by_fits h.names a.objects a.statics a.printed h.state fits h.memory.printed_is h.others)
       (beside_same c s r t left m there h.names a.objects a.statics h.state fits) refused Continues refuses a.frames
       (h.running, h.waiting, h.is, frames_whole h.names a.objects a.statics h.state fits a.frames (h.running ∷ h.waiting) h.frames)
-      (going_pass h.names a.objects a.statics h.state fits a.frames (h.running ∷ h.waiting) h.frames)
+      (charged_pass h.names a.objects a.statics h.state fits a.frames (h.running ∷ h.waiting) h.frames Continues)
   gives threads same refused Returns refuses a (is, as_it_was) = left_follows a as_it_was threads same refused Returns refuses is (λ fs e. ended_none Done fs e)
   gives threads same refused Blocks refuses a (is, frames, as_it_was) =
       let fits = fits_left a as_it_was in
@@ -376,5 +368,5 @@ module _ (c : MachineState) (s : State) (r : Represents c s) (t left : ℕ) (m :
       (subst (AreFrames c.tree c.limits (own_names c s r t left m there) m) (sym (is_alive c s r t left m there).frames_are) (is_alive c s r t left m there).frames) in
       left_follows a as_it_was threads same refused Blocks refuses
       (is, refl, frames_whole (own_names c s r t left m there) a.objects a.statics s fits a.frames (is_alive c s r t left m there).thread.frames refine)
-      (blocked_pass (own_names c s r t left m there) a.objects a.statics s fits a.frames (is_alive c s r t left m there).thread.frames refine)
+      (charged_pass (own_names c s r t left m there) a.objects a.statics s fits a.frames (is_alive c s r t left m there).thread.frames refine Blocks)
   gives threads same refused (Raises x) refuses a (is, as_it_was) = left_follows a as_it_was threads same refused (Raises x) refuses (is, refl) (λ fs e. ended_none (ByFault x) fs e)
