@@ -1,7 +1,6 @@
 -- What a step of a thread may change of monitors and threads, and that each change of a state is such a change.
 use Rattle.std.proofs.Common.{◌≡◌, ◌≤◌, ◌+◌, ◌⊎◌, ℕ, List, [], ◌∷◌, ◌++◌, Option, Some, None, option_map, slice_get, unwrap_or, refl, inl, inr, sym, ap, ◌∙◌, subst}
 use Rattle.std.proofs.lemmas.Option.{option_and_then_some, same_Some}
-use Rattle.interpreter.specs.cil_model.declared.types.DeclaredType.{DeclaredType}
 use Rattle.interpreter.specs.cil_model.Same.{same_text}
 use Rattle.interpreter.specs.cil_model.Fields.{FieldKey}
 use Rattle.interpreter.specs.reference_machine.Values.{ObjectName, Born, Literal, Value}
@@ -106,29 +105,24 @@ module _ (here : StepContext) (s : State) (left : ℕ) (stepping : IsStepping he
       by_index n o (inl is) = subst (λ (x : HeapObject). IsCountedAfter here s left x.monitor) (sym is) (inl tt)
       by_index n o (inr was) = itself_keeps.objects n o was
 
+  -- other contents of an object, where they are found
+  changed_keeps : {X : Type 0} (n : ObjectName) (o : HeapObject) → object_at s n ≡ Some o → (contents : X → Contents) (x : Option X) (after : State) → option_map (λ y. with_object s n (record o { contents = contents y })) x ≡ Some after → KeepsCounts here s left after
+  changed_keeps n o there contents None after e = none_is_some after e
+  changed_keeps n o there contents (Some y) after e = subst (λ x. KeepsCounts here s left x) (same_Some _ after e) (object_keeps n (record o { contents = contents y }) (inl (object_counted n o there)))
+
   -- another value of a field
   pub field_keeps : (n : ObjectName) (k : FieldKey) (v : Value) (after : State) → with_field s n k v ≡ Some after → KeepsCounts here s left after
   field_keeps n k v after h =
       option_and_then_some _ (object_at s n) after h (λ o there h'.
       option_and_then_some _ (fields_of_contents o.contents) after h' (λ fields held h''.
-      by_fields o there (replaced_entry k v fields) h''))
-    where
-      by_fields : (o : HeapObject) → object_at s n ≡ Some o → (fields : Option (List (FieldKey × Value))) → option_map (λ es. with_object s n (record o { contents = with_fields o.contents es })) fields ≡ Some after → KeepsCounts here s left after
-      by_fields o there None e = none_is_some after e
-      by_fields o there (Some fields) e =
-          subst (λ x. KeepsCounts here s left x) (same_Some _ after e) (object_keeps n (record o { contents = with_fields o.contents fields }) (inl (object_counted n o there)))
+      changed_keeps n o there (with_fields o.contents) (replaced_entry k v fields) after h''))
 
   -- another element of an array
   pub element_keeps : (n : ObjectName) (i : ℕ) (v : Value) (after : State) → with_element s n i v ≡ Some after → KeepsCounts here s left after
   element_keeps n i v after h =
       option_and_then_some _ (object_at s n) after h (λ o there h'.
       option_and_then_some _ (elements_of_contents o.contents) after h' (λ array held h''.
-      by_elements o there array.0 (replaced_at i v array.1) h''))
-    where
-      by_elements : (o : HeapObject) → object_at s n ≡ Some o → (t : DeclaredType) (elements : Option (List Value)) → option_map (λ vs. with_object s n (record o { contents = Array t vs })) elements ≡ Some after → KeepsCounts here s left after
-      by_elements o there t None e = none_is_some after e
-      by_elements o there t (Some elements) e =
-          subst (λ x. KeepsCounts here s left x) (same_Some _ after e) (object_keeps n (record o { contents = Array t elements }) (inl (object_counted n o there)))
+      changed_keeps n o there (Array array.0) (replaced_at i v array.1) after h''))
 
   -- other static fields, or other text printed
   pub aside_keeps : (statics : List (FieldKey × Value)) (printed : List ℕ) → KeepsCounts here s left (record s { statics = statics; printed = printed })

@@ -9,7 +9,6 @@ use Rattle.interpreter.specs.reference_machine.Values.{ObjectName, Value as Stat
 use Rattle.interpreter.specs.reference_machine.States.{Frame as StateFrame}
 use Rattle.interpreter.specs.object_memory.declared.addresses.Addr.{Addr}
 use Rattle.interpreter.specs.object_memory.declared.values.Value.{Value}
-use Rattle.interpreter.specs.object_memory.declared.values.Value.TheVariants.{Ref}
 use Rattle.collector.specs.References.{Test, ValuePasses}
 use Rattle.collector.specs.Soundness.{IsListed}
 use Rattle.interpreter.specs.threads_monitors.Frames.{Frame, Frames}
@@ -21,18 +20,19 @@ use Rattle.simulation.proofs.Representation.MoreNames.{value_renamed}
 use Rattle.interpreter.specs.threads_monitors.declared.threads.ThreadStatus.{ThreadStatus}
 use Rattle.interpreter.specs.threads_monitors.declared.threads.ThreadStatus.TheVariants.{Live}
 use Rattle.interpreter.specs.cil_model.declared.reports.End.{End}
-use Rattle.simulation.proofs.Representation.FrameReferences.{Each, FramePasses, Passes, roots_pass as roots_of_frames, roots_passed}
+use Rattle.simulation.proofs.Representation.FrameReferences.{FramePasses, Passes, roots_pass as roots_of_frames, roots_passed}
+use Rattle.std.specs.List.{AllByRecursion}
 
 -- ---- lists
 
 -- what follows of any two items that agree is true of each item of the first list
-each_of_agree : {A B : Type 0} (P : A → Type 0) (R : A → B → Type 0) → ((x : A) (y : B) → R x y → P x) → (xs : List A) (ys : List B) → Agree R xs ys → Each P xs
+pub each_of_agree : {A B : Type 0} (P : A → Type 0) (R : A → B → Type 0) → ((x : A) (y : B) → R x y → P x) → (xs : List A) (ys : List B) → Agree R xs ys → AllByRecursion P xs
 each_of_agree P R f [] ys h = tt
 each_of_agree P R f (x ∷ xs) (y ∷ ys) h = (f x y h.0, each_of_agree P R f xs ys h.1)
 each_of_agree P R f (x ∷ xs) [] h = elim h [ ]
 
 -- lists agree in another relation, where it follows of what is true of each item
-agree_each : {A B : Type 0} (P : A → Type 0) (R S : A → B → Type 0) → ((x : A) (y : B) → P x → R x y → S x y) → (xs : List A) (ys : List B) → Each P xs → Agree R xs ys → Agree S xs ys
+agree_each : {A B : Type 0} (P : A → Type 0) (R S : A → B → Type 0) → ((x : A) (y : B) → P x → R x y → S x y) → (xs : List A) (ys : List B) → AllByRecursion P xs → Agree R xs ys → Agree S xs ys
 agree_each P R S f [] [] each h = h
 agree_each P R S f (x ∷ xs) (y ∷ ys) each h = (f x y each.0 h.0, agree_each P R S f xs ys each.1 h.1)
 agree_each P R S f _ _ each h = elim h [ ]
@@ -40,15 +40,15 @@ agree_each P R S f _ _ each h = elim h [ ]
 -- ---- what has a name is live
 
 module _ (name : Names) (test : Test) (nulls : test (record { number = 0 }) ≡ true) (named : (a : ℕ) (n : ObjectName) → name a ≡ Some n → test (record { number = a }) ≡ true) where
-  value_passes : (v : Value) (u : StateValue) → IsValue name v u → ValuePasses test v
+  pub value_passes : (v : Value) (u : StateValue) → IsValue name v u → ValuePasses test v
   value_passes v u null_reference = nulls
   value_passes v u (reference a n is) = named a.number n is
   value_passes v u _ = tt
 
-  values_pass : (vs : List Value) (us : List StateValue) → Agree (IsValue name) vs us → Each (ValuePasses test) vs
+  values_pass : (vs : List Value) (us : List StateValue) → Agree (IsValue name) vs us → AllByRecursion (ValuePasses test) vs
   values_pass = each_of_agree (ValuePasses test) (IsValue name) value_passes
 
-  object_passes : (o : Option Addr) (n : Option ObjectName) → IsObject name o n → Each (Passes test) (option_to_list o)
+  object_passes : (o : Option Addr) (n : Option ObjectName) → IsObject name o n → AllByRecursion (Passes test) (option_to_list o)
   object_passes None n h = tt
   object_passes (Some a) (Some n) h = (named a.number n h, tt)
   object_passes (Some a) None h = elim h [ ]
@@ -78,10 +78,10 @@ module _ (test : Test) (name names : Names) (kept : (a : ℕ) (n : ObjectName) �
   pub value_kept : (v : Value) (u : StateValue) → ValuePasses test v → IsValue name v u → IsValue names v u
   value_kept v u passes = value_renamed name names v u (λ a n is _. kept a.number n (subst (ValuePasses test) is passes))
 
-  values_kept : (vs : List Value) (us : List StateValue) → Each (ValuePasses test) vs → Agree (IsValue name) vs us → Agree (IsValue names) vs us
+  values_kept : (vs : List Value) (us : List StateValue) → AllByRecursion (ValuePasses test) vs → Agree (IsValue name) vs us → Agree (IsValue names) vs us
   values_kept = agree_each (ValuePasses test) (IsValue name) (IsValue names) value_kept
 
-  object_kept : (o : Option Addr) (n : Option ObjectName) → Each (Passes test) (option_to_list o) → IsObject name o n → IsObject names o n
+  object_kept : (o : Option Addr) (n : Option ObjectName) → AllByRecursion (Passes test) (option_to_list o) → IsObject name o n → IsObject names o n
   object_kept (Some a) (Some n) each h = kept a.number n each.0 h
   object_kept _ _ each h = h
 

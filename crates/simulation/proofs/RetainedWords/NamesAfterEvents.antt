@@ -1,5 +1,5 @@
 -- What a cycle keeps has a name after each event of the collector and each acknowledgement, where it has one before.
-use Rattle.std.proofs.Common.{◌≡◌, ◌⊎◌, ◌+◌, ◌-◌, ◌==◌, ℕ, Bool, true, false, if◌then◌else◌, List, [], ◌∷◌, map, Option, Some, None, is_some, slice_get, refl, inl, inr, sym, ap, ◌∙◌, subst}
+use Rattle.std.proofs.Common.{◌≡◌, ◌⊎◌, ◌+◌, ◌-◌, ◌==◌, ℕ, Bool, true, false, if◌then◌else◌, List, [], ◌∷◌, Option, Some, None, is_some, slice_get, refl, inl, inr, sym, ap, ◌∙◌, subst}
 use Rattle.std.specs.Prelude.{◌||◌, nat_lt, length, unwrap_or, All}
 use Rattle.std.specs.List.{AllByRecursion}
 use Rattle.std.specs.Option.{option_map_or}
@@ -36,7 +36,7 @@ use Rattle.collector.specs.Flips.{clear_step_at}
 use Rattle.collector.specs.MarkSteps.{mark_step, object_scanned, oldest_cell, slot_scanned, with_all_marked, without_oldest, word_of}
 use Rattle.collector.specs.Phases.{is_live, is_marked_cell, is_marked_old, is_new}
 use Rattle.collector.specs.References.{Test, ValuePasses, holds_reference, is_permanent, reference_in}
-use Rattle.collector.specs.Soundness.{IsListed, IsSoundHeap}
+use Rattle.collector.specs.Soundness.{IsSoundHeap}
 use Rattle.collector.specs.declared.progress.Progress.{Progress}
 use Rattle.collector.proofs.Copies.UnchangedReads.{copied_forward, copied_old, copied_was_new, looked_was_new, looked_was_old}
 use Rattle.collector.proofs.Marks.MarkChanges.{AreDarker}
@@ -48,16 +48,17 @@ use Rattle.simulation.specs.Agreement.{Agree}
 use Rattle.simulation.specs.CollectorSteps.{collect, next_posted, with_acknowledgement}
 use Rattle.simulation.specs.MachineStates.{MachineState}
 use Rattle.simulation.specs.Sound.{IsSound}
-use Rattle.simulation.specs.Refines.{IsHeap, IsThread, IsValue, Names, StatusRefines, RefinesUnder, null_reference, reference}
+use Rattle.simulation.specs.Refines.{IsHeap, IsThread, IsValue, Names, StatusRefines, RefinesUnder}
 use Rattle.simulation.proofs.CollectorEvents.AcknowledgementCases.{after_acknowledgement, posts_after}
 use Rattle.simulation.proofs.ListLaws.AgreeingLists.{agree_at}
 use Rattle.simulation.proofs.CollectedHeap.RewrittenCells.{IsNamedWord, contents_named}
 use Rattle.simulation.proofs.RetainedWords.CycleNames.{AreCopiesOfMarked, IsCopyOfMarked, IsNamed, copies_darker, is_kept, kept_darker, kept_is_live, value_mark_adds}
 use Rattle.simulation.proofs.Representation.NormalNames.{IsNormal, other_cell}
 use Rattle.simulation.proofs.Memory.ReferenceSlots.{typed_is_linked}
-use Rattle.simulation.proofs.Representation.RootReferences.{roots_pass}
+use Rattle.simulation.proofs.Representation.RootReferences.{roots_pass, each_of_agree, value_passes}
 use Rattle.simulation.proofs.CollectorEvents.RootMarks.{status_values, thread_marked, thread_values}
 use Rattle.simulation.proofs.CollectorEvents.EventCases.{IsWork, allocates_copy, by_cases, clears_object, copies_word, ends_allocation, ends_copying, ends_cycle, ends_marking, marks_object, opens_cycle, posting, scans_statics, marked}
+use Rattle.simulation.proofs.Representation.FrameReferences.{all_referenced}
 
 -- What is kept has a name; and while objects get their copies, each new one is the copy of a marked one.
 pub record HasNames (name : Names) (c : MachineState) : Type 0 where
@@ -85,19 +86,8 @@ module _ (name : Names) where
   is_named : (a : ℕ) (n : ObjectName) → name a ≡ Some n → is_null_or_named (record { number = a }) ≡ true
   is_named a n is = or_right (a == 0) (is_some (name a)) (ap is_some is)
 
-  value_is : (v : Value) (u : StateValue) → IsValue name v u → ValuePasses is_null_or_named v
-  value_is v u null_reference = refl
-  value_is v u (reference a n is) = is_named a.number n is
-  value_is v u _ = tt
-
   entries_are : (vs : List Value) (es : List (FieldKey × StateValue)) → Agree (λ v (e : FieldKey × StateValue). IsValue name v e.1) vs es → AllByRecursion (ValuePasses is_null_or_named) vs
-  entries_are [] [] h = tt
-  entries_are (v ∷ vs) (e ∷ es) h = (value_is v e.1 h.0, entries_are vs es h.1)
-  entries_are _ _ h = elim h [ ]
-
-  listed_are : (list : List Addr) → ((a : Addr) → IsListed list a → is_null_or_named a ≡ true) → AllByRecursion (ValuePasses is_null_or_named) (map Ref list)
-  listed_are [] each = tt
-  listed_are (a ∷ list) each = (each a (inl refl), listed_are list (λ b listed. each b (inr listed)))
+  entries_are = each_of_agree (ValuePasses is_null_or_named) (λ v (e : FieldKey × StateValue). IsValue name v e.1) (λ v e. value_passes name is_null_or_named refl is_named v e.1)
 
   -- an object that is there isn't null
   old_is_named : (m : Spaces) → AreSpaces m → (a : Addr) (c : Cell) → cell_in m.old a ≡ Some c → is_null_or_named a ≡ true → IsNamed name a
@@ -318,7 +308,7 @@ module _ (c : MachineState) (s : State) (legal : IsLegal c.tree) (typed : IsType
 module _ (c : MachineState) (s : State) (name : Names) (refines : RefinesUnder name c s) (spaces : AreSpaces c.objects.spaces) (has : HasNames name c) (t : ℕ) where
   -- a thread refers to null, or to what has a name
   status_is : (x : ThreadStatus) (gs : List StateFrame) (e : Option End) → StatusRefines c.tree c.limits name x gs e → AllByRecursion (ValuePasses (is_null_or_named name)) (status_values x)
-  status_is (Live m) gs None h = listed_are name (roots m) (roots_pass name (is_null_or_named name) refl (is_named name) c.tree m gs h.frames)
+  status_is (Live m) gs None h = all_referenced (is_null_or_named name) (roots m) (roots_pass name (is_null_or_named name) refl (is_named name) c.tree m gs h.frames)
   status_is (Ended x) gs e h = tt
   status_is (Live m) gs (Some e) h = elim h [ ]
 
