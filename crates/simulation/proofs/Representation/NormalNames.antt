@@ -32,11 +32,11 @@ use Rattle.collector.proofs.Copies.VisibleCopies.{ShowSame, has_words, old_shows
 use Rattle.collector.proofs.ThreadReferences.LiveValues.{reference_again}
 use Rattle.simulation.specs.Refines.{Names, AreTwins, HasOneName, IsValue, int32, int64, native, null_reference, reference, IsWord, IsCell, IsBornAt, IsHeap, IsLiteralAt, IsMonitor, IsOfContents}
 use Rattle.simulation.proofs.CollectedHeap.TwoCopies.{late_of, words_are_live}
-use Rattle.simulation.proofs.Memory.ReferenceSlots.{kind_of_state, is_reference_kind}
-use Rattle.simulation.proofs.Representation.RenamedSlots.{ShowAlike, contents_shown}
+use Rattle.simulation.proofs.Memory.ReferenceSlots.{kind_of_state, is_reference_kind, typed_is_linked}
 use Rattle.simulation.proofs.Memory.NamedAddresses.{born_renamed}
 use Rattle.interpreter.proofs.loaded_program.OperandLaws.{if_some}
 use Rattle.simulation.proofs.Representation.MoreNames.{value_renamed}
+use Rattle.simulation.proofs.CollectedHeap.RewrittenCells.{AreRewritten, contents_rewritten}
 
 -- What is named is live, and the new copy of a named old object has its name where it is live too.
 pub record IsNormal (posted_phase : Phase) (m : Spaces) (name : Names) : Type 0 where
@@ -298,13 +298,14 @@ module _ (tree : Tree) (posted_phase : Phase) (has_round : Bool) (words : ℕ) (
         own_born a n live named =
             let b = heap.born a n named in
             born_renamed tree name names o s a n b
-            (contents_shown tree legal s name names b.cell.kind b.cell.slots b.cell.slots (alike b.cell b.lies) b.object.contents b.object.thread (typed.objects n b.object b.is) b.refines.contents)
+            (contents_rewritten tree name names b.cell.kind b.cell.slots b.cell.slots (alike b.cell b.lies) b.object.contents b.object.thread
+            (typed_is_linked tree legal s name b.cell.kind b.cell.slots b.object.contents b.object.thread (typed.objects n b.object b.is) b.refines.contents) b.refines.contents)
           where
-            alike : (cell : Cell) → object_cell o (record { number = a }) ≡ Some cell → ShowAlike tree name names cell.kind cell.slots cell.slots
+            alike : (cell : Cell) → object_cell o (record { number = a }) ≡ Some cell → AreRewritten tree name names cell.kind cell.slots cell.slots
             alike cell lies = record {
               count = refl;
-              integers = λ slot word held there. there;
-              references = λ slot word u held there kind h. (word, there, word_named word u (live_loads tree posted_phase p m sound.blocks.spaces sound.copies (record { number = a }) cell lies live slot word there held) h);
+              integers = λ slot word there held. there;
+              references = λ slot word there held u kind h. (word, there, word_named word u (live_loads tree posted_phase p m sound.blocks.spaces sound.copies (record { number = a }) cell lies live slot word there held) h);
             }
 
         -- the new copy of one
@@ -316,7 +317,8 @@ module _ (tree : Tree) (posted_phase : Phase) (has_round : Bool) (words : ℕ) (
           object = h.object;
           is = h.is;
           refines = record {
-            contents = subst (λ k. IsOfContents tree names k are.to.slots h.object.contents h.object.thread) (sym are.same.kind) (contents_shown tree legal s name names are.from.kind are.from.slots are.to.slots alike h.object.contents h.object.thread (typed.objects n h.object h.is) refines.contents);
+            contents = subst (λ k. IsOfContents tree names k are.to.slots h.object.contents h.object.thread) (sym are.same.kind) (contents_rewritten tree name names are.from.kind are.from.slots are.to.slots alike h.object.contents h.object.thread
+                (typed_is_linked tree legal s name are.from.kind are.from.slots h.object.contents h.object.thread (typed.objects n h.object h.is) refines.contents) refines.contents);
             monitor = subst (λ x. IsMonitor x h.object.monitor) (sym are.same.monitor) refines.monitor;
           };
         }
@@ -336,11 +338,11 @@ module _ (tree : Tree) (posted_phase : Phase) (has_round : Bool) (words : ℕ) (
             word_there : (slot word : ℕ) (held : Bool) → holds_reference tree are.from.kind slot ≡ held → slice_get are.from.slots slot ≡ Some word → slice_get are.to.slots slot ≡ Some (if held then forward_word m word else word)
             word_there slot word held is there = are.same.slots slot word there ∙ ap (λ x. Some (if x then forward_word m word else word)) is
 
-            alike : ShowAlike tree name names are.from.kind are.from.slots are.to.slots
+            alike : AreRewritten tree name names are.from.kind are.from.slots are.to.slots
             alike = record {
               count = are.same.count;
-              integers = λ slot word held there. word_there slot word false held there;
-              references = λ slot word u held there kind w. (
+              integers = λ slot word there held. word_there slot word false held there;
+              references = λ slot word there held u kind w. (
                 forward_word m word,
                 word_there slot word true held there,
                 word_forwarded are.late word u kind (live_loads tree posted_phase p m sound.blocks.spaces sound.copies b are.from here live slot word there held) w,
