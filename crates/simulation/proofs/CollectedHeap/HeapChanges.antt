@@ -315,7 +315,7 @@ forwarded_refines tree words h p seat first all name o ss s fits late v u (int64
 forwarded_refines tree words h p seat first all name o ss s fits late v u (native z is) = native z is
 forwarded_refines tree words h p seat first all name o ss s fits late v u null_reference = subst (λ x. IsValue fits.whole (Ref x) u) (sym (forward_null o.spaces fits.sound.blocks.spaces)) null_reference
 forwarded_refines tree words h p seat first all name o ss s fits late v u (reference a n is) =
-    reference (forward o.spaces a) n (forward_named tree h.posted_phase h.has_round words p o.spaces fits.sound late fits.whole fits.heap.small fits.filled a n is)
+    reference (forward o.spaces a) n (forward_named tree h.posted_phase h.has_round words p o.spaces fits.sound late fits.whole fits.filled a n is)
 
 -- they have them beside a thread in a phase in which they have them, and in the next one
 late_beside : (own posted_phase : Phase) → has_words own ≡ true → has_words (phase_after own) ≡ true → IsBesidePhase own posted_phase → has_words posted_phase ≡ true

@@ -208,8 +208,7 @@ by_reference name w u P sort h none some = by_value h.value u sort h.refines h.i
     by_value v u sort _ is none some = never sort
 
 module _ (tree : Tree) (posted_phase : Phase) (has_round : Bool) (words : ℕ) (p : Progress) (m : Spaces) (sound : IsSoundHeap tree posted_phase has_round words p m) (late : has_words posted_phase ≡ true)
-    (name : Names) (small : (a : ℕ) (n : ObjectName) → name a ≡ Some n → a < ADDRESSES)
-    (filled : (a b : ℕ) (n : ObjectName) → name a ≡ Some n → other_of (cell_in m.old (record { number = a })) ≡ Some (record { number = b }) → is_live posted_phase m (record { number = b }) ≡ true → name b ≡ Some n) where
+    (name : Names) (filled : (a b : ℕ) (n : ObjectName) → name a ≡ Some n → other_of (cell_in m.old (record { number = a })) ≡ Some (record { number = b }) → is_live posted_phase m (record { number = b }) ≡ true → name b ≡ Some n) where
   -- a forward has the same name
   pub forward_named : (a : Addr) (n : ObjectName) → name a.number ≡ Some n → name (forward m a).number ≡ Some n
   forward_named a n named = elim (forward_either tree posted_phase has_round words p m sound a) [
@@ -219,13 +218,16 @@ module _ (tree : Tree) (posted_phase : Phase) (has_round : Bool) (words : ℕ) (
         (new_is_live posted_phase m (forward m a) (words_are_live posted_phase late) (copy_is_new tree posted_phase has_round words p m sound a (forward m a) copies))
   ]
 
+module _ (tree : Tree) (posted_phase : Phase) (has_round : Bool) (words : ℕ) (p : Progress) (m : Spaces) (sound : IsSoundHeap tree posted_phase has_round words p m) (late : has_words posted_phase ≡ true)
+    (name : Names) (small : (a : ℕ) (n : ObjectName) → name a ≡ Some n → a < ADDRESSES)
+    (filled : (a b : ℕ) (n : ObjectName) → name a ≡ Some n → other_of (cell_in m.old (record { number = a })) ≡ Some (record { number = b }) → is_live posted_phase m (record { number = b }) ≡ true → name b ≡ Some n) where
   -- the forward of a reference represents the same,
   pub word_forwarded : (w : ℕ) (u : StateValue) → is_reference_state u ≡ true → IsWord name w u → IsWord name (forward_word m w) u
   word_forwarded w u sort h = by_reference name w u (λ x. IsWord name (forward_word m w) x) sort h
       (λ zero refines. record { value = Ref null; refines = refines name; is = sym (ap (forward_word m) zero ∙ ap (λ (a : Addr). a.number) (forward_null m sound.blocks.spaces)) })
       (λ a n is named refines. record {
         value = Ref (forward m a);
-        refines = refines name (forward m a) (forward_named a n named);
+        refines = refines name (forward m a) (forward_named tree posted_phase has_round words p m sound late name filled a n named);
         is = ap (λ (x : Addr). (forward m x).number) (sym (reference_again a (small a.number n named))) ∙ ap (forward_word m) is;
       })
 
@@ -254,7 +256,7 @@ module _ (tree : Tree) (posted_phase : Phase) (has_round : Bool) (words : ℕ) (
             | inl zero ↦
                 (let null_is : a ≡ null = sym forward_is ∙ ap (λ (k : ℕ). forward m (record { number = k })) zero ∙ forward_null m sound.blocks.spaces in
                 ap name zero ∙ ap (λ (x : Addr). name x.number) (sym null_is) ∙ named)
-            | inr k ↦ k.1 ∙ sym (forward_named (record { number = was }) k.0 k.1) ∙ ap (λ (x : Addr). name x.number) forward_is ∙ named
+            | inr k ↦ k.1 ∙ sym (forward_named tree posted_phase has_round words p m sound late name filled (record { number = was }) k.0 k.1) ∙ ap (λ (x : Addr). name x.number) forward_is ∙ named
           ]
           in
           record { value = Ref (record { number = was }); refines = refines name (record { number = was }) named'; is = refl }

@@ -2,7 +2,6 @@
 -- names stands under these.
 use Rattle.std.proofs.Common.{◌≡◌, ◌⊎◌, ◌<◌, ◌==◌, ℕ, Bool, true, false, if◌then◌else◌, List, Option, Some, None, slice_get, refl, inl, inr, sym, ap, ◌∙◌, subst, arith}
 use Rattle.std.specs.Prelude.{◌||◌, is_some}
-use Rattle.std.proofs.lemmas.Bool.{or_right}
 use Rattle.std.proofs.lemmas.Option.{same_Some}
 use Rattle.interpreter.specs.cil_model.declared.phases.Phase.{Phase}
 use Rattle.interpreter.specs.cil_model.declared.trees.Tree.{Tree}
@@ -16,23 +15,22 @@ use Rattle.interpreter.specs.object_memory.declared.values.Value.{Value}
 use Rattle.interpreter.specs.object_memory.declared.values.Value.TheVariants.{Ref}
 use Rattle.interpreter.specs.object_memory.Cells.{Cell, cell_in, literal, null}
 use Rattle.interpreter.specs.object_memory.Objects.{Objects, object_cell}
-use Rattle.interpreter.specs.object_memory.Spaces.{Spaces, first_of, forward, forward_word, other_of}
+use Rattle.interpreter.specs.object_memory.Spaces.{Spaces, first_of, forward, other_of}
 use Rattle.interpreter.specs.object_memory.Values.{value_word}
 use Rattle.interpreter.specs.instructions.barriers.Barriers.{forward_value}
-use Rattle.interpreter.proofs.object_memory.TwoSpaces.TwoBlocks.{apart, forward_bare, forward_copy, forward_else, forward_null, new_is_cell, no_literal, old_is_cell, are_distinct}
+use Rattle.interpreter.proofs.object_memory.TwoSpaces.TwoBlocks.{apart, forward_null, new_is_cell, no_literal, old_is_cell, are_distinct}
 use Rattle.interpreter.proofs.cil_model.Lists.{none_is_some}
-use Rattle.interpreter.proofs.cil_model.SameLaws.{never}
 use Rattle.reference_machine.specs.TypedStates.{IsTyped}
-use Rattle.collector.specs.References.{holds_reference, is_permanent, reference_in}
-use Rattle.collector.specs.Phases.{is_live, is_live_object, is_new}
+use Rattle.collector.specs.References.{reference_in}
+use Rattle.collector.specs.Phases.{is_live, is_live_object}
 use Rattle.collector.specs.Soundness.{IsSoundHeap}
 use Rattle.collector.specs.declared.progress.Progress.{Progress}
-use Rattle.collector.proofs.Addresses.Tests.{live_is_late, live_is_read, live_loads, new_is, new_is_live}
-use Rattle.collector.proofs.Copies.VisibleCopies.{ShowSame, has_words, old_shows}
+use Rattle.collector.proofs.Addresses.Tests.{live_is_late, live_is_read, live_loads}
+use Rattle.collector.proofs.Copies.VisibleCopies.{has_words, old_shows}
 use Rattle.collector.proofs.ThreadReferences.LiveValues.{reference_again}
-use Rattle.simulation.specs.Refines.{Names, AreTwins, HasOneName, IsValue, int32, int64, native, null_reference, reference, IsWord, IsCell, IsBornAt, IsHeap, IsLiteralAt, IsMonitor, IsOfContents}
-use Rattle.simulation.proofs.CollectedHeap.TwoCopies.{late_of, words_are_live}
-use Rattle.simulation.proofs.Memory.ReferenceSlots.{kind_of_state, is_reference_kind, typed_is_linked}
+use Rattle.simulation.specs.Refines.{Names, AreTwins, HasOneName, IsValue, int32, int64, native, null_reference, reference, IsWord, IsCell, IsBornAt, IsHeap, IsLiteralAt}
+use Rattle.simulation.proofs.CollectedHeap.TwoCopies.{late_of, AreOldAndNew, forward_named, new_copy_refines}
+use Rattle.simulation.proofs.Memory.ReferenceSlots.{typed_is_linked}
 use Rattle.simulation.proofs.Memory.NamedAddresses.{born_renamed}
 use Rattle.interpreter.proofs.loaded_program.OperandLaws.{if_some}
 use Rattle.simulation.proofs.Representation.MoreNames.{value_renamed}
@@ -111,7 +109,6 @@ record ArePair (tree : Tree) (posted_phase : Phase) (m : Spaces) (a b : Addr) : 
   out : from.other ≡ Some b
   back : to.other ≡ Some a
   late : has_words posted_phase ≡ true
-  same : ShowSame tree m from to
 
 module _ (tree : Tree) (posted_phase : Phase) (has_round : Bool) (words : ℕ) (p : Progress) (o : Objects) (sound : IsSoundHeap tree posted_phase has_round words p o.spaces) where
   abbrev m : Spaces
@@ -125,7 +122,7 @@ module _ (tree : Tree) (posted_phase : Phase) (has_round : Bool) (words : ℕ) (
       let read = live_is_read m sound.blocks.spaces a c posted_phase lies live_old in
       let words_there = late_of posted_phase c (live_is_late m sound.blocks.spaces b copy.0 posted_phase copy.1 live_new) read in
       let shown = old_shows tree posted_phase p m sound.blocks.spaces sound.copies words_there a b c lies other in
-      record { from = c; to = shown.0; old = lies; new = shown.1; out = other; back = shown.2; late = words_there; same = shown.3 }
+      record { from = c; to = shown.0; old = lies; new = shown.1; out = other; back = shown.2; late = words_there }
 
   -- through the old address, and through the new one
   old_pair : (a b : Addr) → other_of (cell_in m.old a) ≡ Some b → is_live posted_phase m a ≡ true → is_live posted_phase m b ≡ true → ArePair tree posted_phase m a b
@@ -244,31 +241,24 @@ module _ (tree : Tree) (posted_phase : Phase) (has_round : Bool) (words : ℕ) (
           twins a b n k is also (inl out) = same_Some n k (sym (full (record { number = a }) (record { number = b }) n is out (filled_is posted_phase m name b k also).0) ∙ also)
           twins a b n k is also (inr out) = same_Some n k (sym is ∙ full (record { number = b }) (record { number = a }) k also out (filled_is posted_phase m name a n is).0)
 
+      -- ---- addresses
+
+      small_then : (a : ℕ) (n : ObjectName) → names a ≡ Some n → a < ADDRESSES
+      small_then a n is = by_name (filled_is posted_phase m name a n is).1
+        where
+          by_name : IsFilled posted_phase m name a n → a < ADDRESSES
+          by_name (own named) = heap.small a n named
+          by_name (copied b there live named) =
+              let to = other_cell (cell_in m.new (record { number = a })) b there in
+              let low = (are_distinct m sound.blocks.spaces (record { number = a }) to.0 (new_is_cell m sound.blocks.spaces (record { number = a }) to.0 to.1)).1 in
+              omega (arith, low)
+
       -- ---- words
 
-      module _ (a : Addr) (n : ObjectName) (named : name a.number ≡ Some n) where
-        again : reference_in a.number ≡ a
-        again = reference_again a (heap.small a.number n named)
+      again : (a : Addr) (n : ObjectName) → name a.number ≡ Some n → reference_in a.number ≡ a
+      again a n named = reference_again a (heap.small a.number n named)
 
-        -- the forward of a live reference has its name
-        pub forward_named : has_words posted_phase ≡ true → is_live posted_phase m a ≡ true → names (forward m a).number ≡ Some n
-        forward_named late live = by_cell (cell_in m.old a) refl
-          where
-            itself : forward m a ≡ a → names (forward m a).number ≡ Some n
-            itself same = subst (λ (x : Addr). names x.number ≡ Some n) (sym same) (is_filled posted_phase m name a.number n live named)
-
-            by_other : (c : Cell) → cell_in m.old a ≡ Some c → (x : Option Addr) → c.other ≡ x → names (forward m a).number ≡ Some n
-            by_other c lies None no_copy = itself (forward_bare m a c lies no_copy)
-            by_other c lies (Some b) other =
-                let copy = sound.copies.out a b c lies other in
-                let live_new = new_is_live posted_phase m b (words_are_live posted_phase late) (or_right (is_permanent b) (is_new m b) (new_is m b copy.0 copy.1)) in
-                subst (λ (x : Addr). names x.number ≡ Some n) (sym (forward_copy m a b c lies other)) (copy_named a b n (pair a b c lies other live live_new) live live_new named)
-
-            by_cell : (x : Option Cell) → cell_in m.old a ≡ x → names (forward m a).number ≡ Some n
-            by_cell None lies = itself (forward_else m a lies)
-            by_cell (Some c) lies = by_other c lies c.other refl
-
-      -- a word that refers to what is live stands as it is,
+      -- a word that refers to what is live stands as it is
       word_named : (word : ℕ) (u : StateValue) → is_live posted_phase m (reference_in word) ≡ true → IsWord name word u → IsWord names word u
       word_named word u live h = record {
         value = h.value;
@@ -276,19 +266,6 @@ module _ (tree : Tree) (posted_phase : Phase) (has_round : Bool) (words : ℕ) (
             (λ a n is _ named. is_filled posted_phase m name a.number n (subst (λ x. is_live posted_phase m x ≡ true) (again a n named) (subst (λ w. is_live posted_phase m (reference_in w) ≡ true) (sym h.is ∙ ap value_word is) live)) named) h.refines;
         is = h.is;
       }
-
-      -- and so does its forward
-      word_forwarded : has_words posted_phase ≡ true → (word : ℕ) (u : StateValue) → is_reference_kind (kind_of_state u) ≡ true → is_live posted_phase m (reference_in word) ≡ true → IsWord name word u → IsWord names (forward_word m word) u
-      word_forwarded late word u kind live h = subst (λ w. IsWord names (forward_word m w) u) h.is (by_value h.value u h.refines kind (subst (λ w. is_live posted_phase m (reference_in w) ≡ true) (sym h.is) live))
-        where
-          by_value : (v : Value) (x : StateValue) → IsValue name v x → is_reference_kind (kind_of_state x) ≡ true → is_live posted_phase m (reference_in (value_word v)) ≡ true → IsWord names (forward_word m (value_word v)) x
-          by_value v x null_reference k l = record { value = Ref null; refines = null_reference; is = ap (λ (y : Addr). y.number) (sym (ap (forward m) (reference_again null (omega arith)) ∙ forward_null m sound.blocks.spaces)) }
-          by_value v x (reference a n is) k l = record {
-            value = Ref (forward m a);
-            refines = reference (forward m a) n (forward_named a n is late (subst (λ x. is_live posted_phase m x ≡ true) (again a n is) l));
-            is = ap (λ (y : Addr). (forward m y).number) (sym (again a n is));
-          }
-          by_value v x _ wrong l = never wrong
 
       -- ---- objects
 
@@ -316,38 +293,21 @@ module _ (tree : Tree) (posted_phase : Phase) (has_round : Bool) (words : ℕ) (
           lies = lies;
           object = h.object;
           is = h.is;
-          refines = record {
-            contents = subst (λ k. IsOfContents tree names k are.to.slots h.object.contents h.object.thread) (sym are.same.kind) (contents_rewritten tree name names are.from.kind are.from.slots are.to.slots alike h.object.contents h.object.thread
-                (typed_is_linked tree legal s name are.from.kind are.from.slots h.object.contents h.object.thread (typed.objects n h.object h.is) refines.contents) refines.contents);
-            monitor = subst (λ x. IsMonitor x h.object.monitor) (sym are.same.monitor) refines.monitor;
-          };
+          refines = new_copy_refines tree posted_phase has_round words p m sound are.late names small_then filled_is_normal.filled b (record { number = a }) copies h.object
+              (typed_is_linked tree legal s names are.from.kind are.from.slots h.object.contents h.object.thread (typed.objects n h.object h.is) refines.contents) refines;
         }
           where
             lies : object_cell o (record { number = a }) ≡ Some are.to
             lies = new_is_cell m sound.blocks.spaces (record { number = a }) are.to are.new
 
-            here : object_cell o b ≡ Some are.from
-            here = old_is_cell m b are.from are.old
+            copies : AreOldAndNew m b (record { number = a })
+            copies = record { from = are.from; to = are.to; old = are.old; out = are.out; new = are.new }
 
-            h : IsBornAt tree name o s b.number n
-            h = heap.born b.number n named
+            h : IsBornAt tree names o s b.number n
+            h = own_born b.number n live named
 
-            refines : IsCell tree name are.from h.object
-            refines = subst (λ x. IsCell tree name x h.object) (same_Some h.cell are.from (sym h.lies ∙ here)) h.refines
-
-            word_there : (slot word : ℕ) (held : Bool) → holds_reference tree are.from.kind slot ≡ held → slice_get are.from.slots slot ≡ Some word → slice_get are.to.slots slot ≡ Some (if held then forward_word m word else word)
-            word_there slot word held is there = are.same.slots slot word there ∙ ap (λ x. Some (if x then forward_word m word else word)) is
-
-            alike : AreRewritten tree name names are.from.kind are.from.slots are.to.slots
-            alike = record {
-              count = are.same.count;
-              integers = λ slot word there held. word_there slot word false held there;
-              references = λ slot word there held u kind w. (
-                forward_word m word,
-                word_there slot word true held there,
-                word_forwarded are.late word u kind (live_loads tree posted_phase p m sound.blocks.spaces sound.copies b are.from here live slot word there held) w,
-              );
-            }
+            refines : IsCell tree names are.from h.object
+            refines = subst (λ x. IsCell tree names x h.object) (same_Some h.cell are.from (sym h.lies ∙ old_is_cell m b are.from are.old)) h.refines
 
         born_then : (a n : ℕ) → names a ≡ Some (Born n) → IsBornAt tree names o s a n
         born_then a n is = by_name (filled_is posted_phase m name a (Born n) is).1
@@ -388,16 +348,6 @@ module _ (tree : Tree) (posted_phase : Phase) (has_round : Bool) (words : ℕ) (
                 either true y = refl
                 either false y = refl
 
-        small_then : (a : ℕ) (n : ObjectName) → names a ≡ Some n → a < ADDRESSES
-        small_then a n is = by_name (filled_is posted_phase m name a n is).1
-          where
-            by_name : IsFilled posted_phase m name a n → a < ADDRESSES
-            by_name (own named) = heap.small a n named
-            by_name (copied b there live named) =
-                let to = other_cell (cell_in m.new (record { number = a })) b there in
-                let low = (are_distinct m sound.blocks.spaces (record { number = a }) to.0 (new_is_cell m sound.blocks.spaces (record { number = a }) to.0 to.1)).1 in
-                omega (arith, low)
-
         null_then : (x : Option ObjectName) → names 0 ≡ x → names 0 ≡ None
         null_then None is = is
         null_then (Some n) is = by_name (filled_is posted_phase m name 0 n is).1
@@ -425,21 +375,7 @@ module _ (tree : Tree) (posted_phase : Phase) (has_round : Bool) (words : ℕ) (
 module _ (tree : Tree) (posted_phase : Phase) (has_round : Bool) (words : ℕ) (p : Progress) (o : Objects) (sound : IsSoundHeap tree posted_phase has_round words p o.spaces) (late : has_words posted_phase ≡ true) (name : Names) (normal : IsNormal posted_phase o.spaces name) where
   -- the forward has the name of what it forwards, where both copies are live
   pub normal_forward : (a : Addr) (n : ObjectName) → name a.number ≡ Some n → name (forward o.spaces a).number ≡ Some n
-  normal_forward a n named = by_cell (cell_in o.spaces.old a) refl
-    where
-      itself : forward o.spaces a ≡ a → name (forward o.spaces a).number ≡ Some n
-      itself same = subst (λ (x : Addr). name x.number ≡ Some n) (sym same) named
-
-      by_other : (c : Cell) → cell_in o.spaces.old a ≡ Some c → (x : Option Addr) → c.other ≡ x → name (forward o.spaces a).number ≡ Some n
-      by_other c lies None no_copy = itself (forward_bare o.spaces a c lies no_copy)
-      by_other c lies (Some b) other =
-          let copy = sound.copies.out a b c lies other in
-          let live = new_is_live posted_phase o.spaces b (words_are_live posted_phase late) (or_right (is_permanent b) (is_new o.spaces b) (new_is o.spaces b copy.0 copy.1)) in
-          subst (λ (x : Addr). name x.number ≡ Some n) (sym (forward_copy o.spaces a b c lies other)) (normal.filled a.number b.number n named (ap other_of lies ∙ other) live)
-
-      by_cell : (x : Option Cell) → cell_in o.spaces.old a ≡ x → name (forward o.spaces a).number ≡ Some n
-      by_cell None lies = itself (forward_else o.spaces a lies)
-      by_cell (Some c) lies = by_other c lies c.other refl
+  normal_forward = forward_named tree posted_phase has_round words p o.spaces sound late name normal.filled
 
   -- so does a value
   pub normal_value : (v : Value) (u : StateValue) → IsValue name v u → IsValue name (forward_value o v) u
