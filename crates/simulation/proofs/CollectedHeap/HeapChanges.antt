@@ -18,7 +18,7 @@ use Rattle.interpreter.specs.object_memory.Cells.{Cell, cell_in, change_in, null
 use Rattle.interpreter.specs.object_memory.Objects.{Objects}
 use Rattle.interpreter.specs.object_memory.Spaces.{Spaces, forward, is_old, is_white, marked_if, other_of, set_mark}
 use Rattle.interpreter.specs.instructions.barriers.Barriers.{with_marked, forward_value, is_static_storable, stored_static}
-use Rattle.interpreter.proofs.object_memory.TwoSpaces.TwoBlocks.{after_in, forward-change, forward_null}
+use Rattle.interpreter.proofs.object_memory.TwoSpaces.TwoBlocks.{after_in, forward-change}
 use Rattle.collector.specs.phase_handshake.Handshakes.{Handshakes, IsClose}
 use Rattle.collector.specs.phase_handshake.declared.posts.Seat.{Seat}
 use Rattle.collector.specs.References.{ValuePasses, is_permanent}
@@ -34,12 +34,12 @@ use Rattle.collector.proofs.HeapStores.ReachedCopies.{close_is_beside, IsBeside 
 use Rattle.collector.proofs.Addresses.TagChanges.{AreAlike, alike_itself, live_stays, passes_still}
 use Rattle.collector.proofs.Addresses.Disjunctions.{or_more}
 use Rattle.collector.proofs.Addresses.Tests.{HoldMeans, held_is_live, is_new_live, old_is}
-use Rattle.simulation.specs.Refines.{AreTwins, HasOneName, IsBornAt, IsCell, IsHeap, IsLiteralAt, IsValue, Names, int32, int64, native, null_reference, reference}
+use Rattle.simulation.specs.Refines.{AreTwins, HasOneName, IsBornAt, IsCell, IsHeap, IsLiteralAt, IsValue, Names, null_reference, reference}
 use Rattle.simulation.proofs.ListLaws.AgreeingLists.{agree_get, agree_length, agree_weaken}
 use Rattle.simulation.proofs.Memory.NamedAddresses.{heap_beside, literal_beside}
 use Rattle.simulation.proofs.Memory.MemoryModels.{AreStatics, IsBeside}
 use Rattle.simulation.proofs.CollectedHeap.RewrittenCells.{agree_from}
-use Rattle.simulation.proofs.CollectedHeap.TwoCopies.{copy_stays, twins_stay, forward_named}
+use Rattle.simulation.proofs.CollectedHeap.TwoCopies.{copy_stays, twins_stay, value_forwarded}
 use Rattle.simulation.proofs.CollectedHeap.VisibleNames.{FitsCollected, first_hold, means, named_passes, permanent_passes, own_extends, passes_is_held}
 use Rattle.collector.proofs.Copies.VisibleCopies.{has_words}
 use Rattle.collector.proofs.ThreadReferences.LiveValues.{held_by}
@@ -307,17 +307,7 @@ agree_again R x z f (w ∷ ws) (y ∷ ys) (suc n) h = (h.0, agree_again R x z f 
 
 -- ---- forwards
 
--- the forward of a value represents the same, once the new copies have all words
-pub forwarded_refines : (tree : Tree) (words : ℕ) (h : Handshakes) (p : Progress) (seat : Seat) (first : Objects) (all : Names) (name : Names) (o : Objects) (ss : List Value) (s : State) (fits : FitsCollected tree words h p seat first all name o ss s) →
-    has_words h.posted_phase ≡ true → (v : Value) (u : StateValue) → IsValue fits.whole v u → IsValue fits.whole (forward_value o v) u
-forwarded_refines tree words h p seat first all name o ss s fits late v u (int32 z is) = int32 z is
-forwarded_refines tree words h p seat first all name o ss s fits late v u (int64 z is) = int64 z is
-forwarded_refines tree words h p seat first all name o ss s fits late v u (native z is) = native z is
-forwarded_refines tree words h p seat first all name o ss s fits late v u null_reference = subst (λ x. IsValue fits.whole (Ref x) u) (sym (forward_null o.spaces fits.sound.blocks.spaces)) null_reference
-forwarded_refines tree words h p seat first all name o ss s fits late v u (reference a n is) =
-    reference (forward o.spaces a) n (forward_named tree h.posted_phase h.has_round words p o.spaces fits.sound late fits.whole fits.filled a n is)
-
--- they have them beside a thread in a phase in which they have them, and in the next one
+-- both copies have all words beside a thread in a phase in which they have them, as they have in the next one
 late_beside : (own posted_phase : Phase) → has_words own ≡ true → has_words (phase_after own) ≡ true → IsBesidePhase own posted_phase → has_words posted_phase ≡ true
 late_beside own posted_phase now next (inl same) = ap has_words (sym same) ∙ now
 late_beside own posted_phase now next (inr after) = ap has_words (sym after) ∙ next
@@ -378,7 +368,7 @@ module _ (tree : Tree) (words : ℕ) (h : Handshakes) (p : Progress) (seat : Sea
     plain pass = static_set o fits v (λ x same. same) pass
 
     flipped : has_words h.posted_phase ≡ true → ValuePasses (static_may_hold h.posted_phase o.spaces p n) (forward_value o v) → FitsCollected tree words h p seat first all name o (slice_set ss n (forward_value o v)) (record s { statics = entries })
-    flipped late pass = static_set o fits (forward_value o v) (λ x same. forwarded_refines tree words h p seat first all name o ss s fits late v x same) pass
+    flipped late pass = static_set o fits (forward_value o v) (λ x same. value_forwarded tree h.posted_phase h.has_round words p o fits.sound late fits.whole fits.filled v x same) pass
 
     marked : seat.phase ≡ Mark → ValuePasses (static_may_hold h.posted_phase (with_marked o v).spaces p n) v → FitsCollected tree words h p seat first all name (with_marked o v) (slice_set ss n v) (record s { statics = entries })
     marked e pass =

@@ -24,9 +24,11 @@ use Rattle.collector.proofs.Copies.VisibleCopies.{ShowSame, has_words, old_shows
 use Rattle.collector.proofs.ThreadReferences.LiveValues.{reference_again}
 use Rattle.collector.proofs.Addresses.Disjunctions.{or_second}
 use Rattle.collector.proofs.Addresses.Tests.{is_new_live, live_is_late, live_is_read, new_is, new_is_live}
-use Rattle.simulation.specs.Refines.{AreTwins, IsCell, IsMonitor, IsOfContents, IsValue, IsWord, Names, null_reference, reference}
+use Rattle.simulation.specs.Refines.{AreTwins, IsCell, IsMonitor, IsOfContents, IsValue, IsWord, Names, null_reference, reference, int32, int64, native}
 use Rattle.simulation.proofs.Memory.ReferenceSlots.{IsLinked, is_reference_state}
 use Rattle.simulation.proofs.CollectedHeap.RewrittenCells.{AreRewritten, IsNamedWord, contents_rewritten}
+use Rattle.interpreter.specs.object_memory.Objects.{Objects}
+use Rattle.interpreter.specs.instructions.barriers.Barriers.{forward_value}
 
 -- ---- phases
 
@@ -217,6 +219,16 @@ module _ (tree : Tree) (posted_phase : Phase) (has_round : Bool) (words : ℕ) (
         filled a.number (forward m a).number n named (noted tree posted_phase has_round words p m sound a (forward m a) copies)
         (new_is_live posted_phase m (forward m a) (words_are_live posted_phase late) (copy_is_new tree posted_phase has_round words p m sound a (forward m a) copies))
   ]
+
+-- so the forward of a value represents the same
+pub value_forwarded : (tree : Tree) (posted_phase : Phase) (has_round : Bool) (words : ℕ) (p : Progress) (o : Objects) → IsSoundHeap tree posted_phase has_round words p o.spaces → has_words posted_phase ≡ true → (name : Names) →
+    ((a b : ℕ) (n : ObjectName) → name a ≡ Some n → other_of (cell_in o.spaces.old (record { number = a })) ≡ Some (record { number = b }) → is_live posted_phase o.spaces (record { number = b }) ≡ true → name b ≡ Some n) →
+    (v : Value) (u : StateValue) → IsValue name v u → IsValue name (forward_value o v) u
+value_forwarded tree posted_phase has_round words p o sound late name filled v u (int32 z fits) = int32 z fits
+value_forwarded tree posted_phase has_round words p o sound late name filled v u (int64 z fits) = int64 z fits
+value_forwarded tree posted_phase has_round words p o sound late name filled v u (native z fits) = native z fits
+value_forwarded tree posted_phase has_round words p o sound late name filled v u null_reference = subst (λ a. IsValue name (Ref a) u) (sym (forward_null o.spaces sound.blocks.spaces)) null_reference
+value_forwarded tree posted_phase has_round words p o sound late name filled v u (reference a n is) = reference (forward o.spaces a) n (forward_named tree posted_phase has_round words p o.spaces sound late name filled a n is)
 
 module _ (tree : Tree) (posted_phase : Phase) (has_round : Bool) (words : ℕ) (p : Progress) (m : Spaces) (sound : IsSoundHeap tree posted_phase has_round words p m) (late : has_words posted_phase ≡ true)
     (name : Names) (small : (a : ℕ) (n : ObjectName) → name a ≡ Some n → a < ADDRESSES)

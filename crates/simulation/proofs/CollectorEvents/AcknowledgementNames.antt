@@ -35,7 +35,7 @@ use Rattle.simulation.specs.Refines.{Names, IsValue, int32, int64, native, null_
 use Rattle.simulation.proofs.ListLaws.AgreeingLists.{agree_changed}
 use Rattle.simulation.proofs.CollectorEvents.AcknowledgementCases.{after_acknowledgement, posts_after}
 use Rattle.simulation.proofs.Representation.NormalContents.{normal_names, sound_is_held, thread_is_live}
-use Rattle.simulation.proofs.Representation.NormalNames.{IsNormal, normal_forward}
+use Rattle.simulation.proofs.Representation.NormalNames.{IsNormal}
 use Rattle.simulation.proofs.CollectorEvents.RootMarks.{thread_marked, thread_values, all_of_listed, listed_of_all}
 use Rattle.std.specs.Option.{option_map_or}
 use Rattle.std.proofs.lemmas.Bool.{eq-eqb, cases_eq}
@@ -54,6 +54,7 @@ use Rattle.collector.proofs.Addresses.Tests.{value_weakens}
 use Rattle.simulation.proofs.Representation.FrameReferences.{frames_replaced, roots_pass, roots_passed}
 use Rattle.simulation.proofs.Threads.Seats.{other_seat, own_seat, seat_cases, set_other}
 use Rattle.simulation.proofs.CollectorEvents.RepresentedObjects.{refines_shown, darker_shows}
+use Rattle.simulation.proofs.CollectedHeap.TwoCopies.{forward_named}
 
 -- ---- An acknowledgement keeps a machine sound, in each phase that is posted.
 
@@ -361,12 +362,9 @@ module _ (c : MachineState) (s : State) (name : Names) (sound : IsSound c) (refi
       record { memory = marks.memory; threads = marks.threads })
 
   module _ (normal : IsNormal c.posts.posted_phase c.objects.spaces name) (flip : is_phase c.posts.posted_phase ThreadFlip ≡ true) where
-    -- the forward has the name of what it forwards
-    forward_named : (a : Addr) (n : ObjectName) → name a.number ≡ Some n → name (forward c.objects.spaces a).number ≡ Some n
-    forward_named = normal_forward c.tree c.posts.posted_phase c.posts.has_round c.limits.max_words c.progress c.objects sound.heap (ap has_words (same_phase c.posts.posted_phase ThreadFlip flip)) name normal
-
     status_refines : (x : ThreadStatus) (xs : List StateFrame) (e : Option End) → StatusRefines c.tree c.limits name x xs e → StatusRefines c.tree c.limits name (status_flipped c.objects x) xs e
-    status_refines (Live fs) xs None h = live_flipped name (forward c.objects.spaces) (forward_null c.objects.spaces sound.heap.blocks.spaces) forward_named c.tree c.limits fs xs h
+    status_refines (Live fs) xs None h = live_flipped name (forward c.objects.spaces) (forward_null c.objects.spaces sound.heap.blocks.spaces)
+        (forward_named c.tree c.posts.posted_phase c.posts.has_round c.limits.max_words c.progress c.objects.spaces sound.heap (ap has_words (same_phase c.posts.posted_phase ThreadFlip flip)) name normal.filled) c.tree c.limits fs xs h
     status_refines _ xs _ h = h
 
     flips_refine : (new_posts : Handshakes) (t : ℕ) (o : Option Thread) → slice_get c.threads t ≡ o → RefinesUnder name (record c { threads = with_flipped c.objects c.threads t o; posts = new_posts }) s

@@ -37,10 +37,11 @@ use Rattle.collector.proofs.Copies.AllocateWork.{looked_sound}
 use Rattle.collector.proofs.Copies.UnchangedReads.{copied_else, copied_live, copied_old, looked_else, looked_live, looked_new, looked_old}
 use Rattle.collector.proofs.Copies.CopyWork.{copied_sound}
 use Rattle.collector.proofs.PhaseChanges.ReclaimWork.{ShowsSame, cleared_shows, cleared_sound, cleared_stays, retired_cell, retired_sound}
-use Rattle.simulation.proofs.Representation.NormalNames.{IsNormal, normal_value, other_cell}
+use Rattle.simulation.proofs.Representation.NormalNames.{IsNormal, other_cell}
 use Rattle.simulation.proofs.ListLaws.AgreeingLists.{agree_changed}
 use Rattle.simulation.proofs.Memory.NamedAddresses.{literal_beside}
 use Rattle.simulation.proofs.CollectorEvents.EventCases.{IsWork, allocated, allocates_copy, by_cases, cleared, clears_object, copied, copies_word, ends_cycle, flips_static, marked, marks_object, opens_cycle, posting, posts_round, scans_statics}
+use Rattle.simulation.proofs.CollectedHeap.TwoCopies.{value_forwarded}
 
 -- ---- objects that show the same through each name
 
@@ -204,7 +205,7 @@ module _ (name : Names) (o : Objects) (has_round : Bool) (tree : Tree) (words : 
       by_field : (x : Option Value) → slice_get statics p.flipped_statics ≡ x → Agree (λ v (f : FieldKey × StateValue). IsValue name v f.1) (flip_step p o statics x).1 fields
       by_field None is = agree
       by_field (Some v) is =
-          agree_changed (λ w (f : FieldKey × StateValue). IsValue name w f.1) statics fields p.flipped_statics v (forward_value o v) is (λ f refines. normal_value tree HeapFlip has_round words p o sound refl name normal v f.1 refines) agree
+          agree_changed (λ w (f : FieldKey × StateValue). IsValue name w f.1) statics fields p.flipped_statics v (forward_value o v) is (λ f refines. value_forwarded tree HeapFlip has_round words p o sound refl name normal.filled v f.1 refines) agree
 
 -- ---- Reclaim
 

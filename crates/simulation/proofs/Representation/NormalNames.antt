@@ -11,14 +11,11 @@ use Rattle.interpreter.specs.reference_machine.Values.{ObjectName, Born, Literal
 use Rattle.interpreter.specs.reference_machine.States.{State}
 use Rattle.interpreter.specs.object_memory.declared.addresses.Addr.{Addr}
 use Rattle.interpreter.specs.object_memory.declared.addresses.TheConstants.{ADDRESSES}
-use Rattle.interpreter.specs.object_memory.declared.values.Value.{Value}
-use Rattle.interpreter.specs.object_memory.declared.values.Value.TheVariants.{Ref}
 use Rattle.interpreter.specs.object_memory.Cells.{Cell, cell_in, literal, null}
 use Rattle.interpreter.specs.object_memory.Objects.{Objects, object_cell}
-use Rattle.interpreter.specs.object_memory.Spaces.{Spaces, first_of, forward, other_of}
+use Rattle.interpreter.specs.object_memory.Spaces.{Spaces, first_of, other_of}
 use Rattle.interpreter.specs.object_memory.Values.{value_word}
-use Rattle.interpreter.specs.instructions.barriers.Barriers.{forward_value}
-use Rattle.interpreter.proofs.object_memory.TwoSpaces.TwoBlocks.{apart, forward_null, new_is_cell, no_literal, old_is_cell, are_distinct}
+use Rattle.interpreter.proofs.object_memory.TwoSpaces.TwoBlocks.{apart, new_is_cell, no_literal, old_is_cell, are_distinct}
 use Rattle.interpreter.proofs.cil_model.Lists.{none_is_some}
 use Rattle.reference_machine.specs.TypedStates.{IsTyped}
 use Rattle.collector.specs.References.{reference_in}
@@ -28,8 +25,8 @@ use Rattle.collector.specs.declared.progress.Progress.{Progress}
 use Rattle.collector.proofs.Addresses.Tests.{live_is_late, live_is_read, live_loads}
 use Rattle.collector.proofs.Copies.VisibleCopies.{has_words, old_shows}
 use Rattle.collector.proofs.ThreadReferences.LiveValues.{reference_again}
-use Rattle.simulation.specs.Refines.{Names, AreTwins, HasOneName, IsValue, int32, int64, native, null_reference, reference, IsWord, IsCell, IsBornAt, IsHeap, IsLiteralAt}
-use Rattle.simulation.proofs.CollectedHeap.TwoCopies.{late_of, AreOldAndNew, forward_named, new_copy_refines}
+use Rattle.simulation.specs.Refines.{Names, AreTwins, HasOneName, IsWord, IsCell, IsBornAt, IsHeap, IsLiteralAt}
+use Rattle.simulation.proofs.CollectedHeap.TwoCopies.{late_of, AreOldAndNew, new_copy_refines}
 use Rattle.simulation.proofs.Memory.ReferenceSlots.{typed_is_linked}
 use Rattle.simulation.proofs.Memory.NamedAddresses.{born_renamed}
 use Rattle.interpreter.proofs.loaded_program.OperandLaws.{if_some}
@@ -369,18 +366,3 @@ module _ (tree : Tree) (posted_phase : Phase) (has_round : Bool) (words : ℕ) (
           literals = literal_then;
           each_literal = literal_named;
         }
-
--- ---- what normal names say
-
-module _ (tree : Tree) (posted_phase : Phase) (has_round : Bool) (words : ℕ) (p : Progress) (o : Objects) (sound : IsSoundHeap tree posted_phase has_round words p o.spaces) (late : has_words posted_phase ≡ true) (name : Names) (normal : IsNormal posted_phase o.spaces name) where
-  -- the forward has the name of what it forwards, where both copies are live
-  pub normal_forward : (a : Addr) (n : ObjectName) → name a.number ≡ Some n → name (forward o.spaces a).number ≡ Some n
-  normal_forward = forward_named tree posted_phase has_round words p o.spaces sound late name normal.filled
-
-  -- so does a value
-  pub normal_value : (v : Value) (u : StateValue) → IsValue name v u → IsValue name (forward_value o v) u
-  normal_value v u (int32 z fits) = int32 z fits
-  normal_value v u (int64 z fits) = int64 z fits
-  normal_value v u (native z fits) = native z fits
-  normal_value v u null_reference = subst (λ a. IsValue name (Ref a) u) (sym (forward_null o.spaces sound.blocks.spaces)) null_reference
-  normal_value v u (reference a n is) = reference (forward o.spaces a) n (normal_forward a n is)
