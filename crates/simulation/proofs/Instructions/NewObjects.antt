@@ -58,6 +58,7 @@ use Rattle.interpreter.specs.loaded_program.LocalKinds.{local_kinds}
 use Rattle.simulation.specs.Agreement.{Agree}
 use Rattle.simulation.specs.MachineStates.{frame_room}
 use Rattle.simulation.proofs.ListLaws.AgreeingLists.{agree_length, agree_take, agree_drop, agree_reverse}
+use Rattle.simulation.proofs.Instructions.Calls.MethodExecution.{full_alike}
 
 -- ---- A list with an item inserted: what is left after a drop, what it is in reverse, and its length.
 
@@ -92,10 +93,7 @@ length_inserted (suc n) x (y ∷ ys) h = ap suc (length_inserted n x ys (omega (
 above_none : (n k : ℕ) → n ≡ suc k → nat_lt 0 n ≡ true
 above_none n k h = grind (arith, nat_tests)
 
--- at the limit, or below it
-full_is_deep : (n depth : ℕ) → n + 1 ≤ depth → (n + 1 == depth) ≡ nat_le depth (suc n)
-full_is_deep n depth h = grind (arith, nat_tests)
-
+-- below the limit of frames
 not_full : (n depth : ℕ) → n + 1 ≤ depth → (n + 1 == depth) ≡ false → n + 1 < depth
 not_full n depth h k = grind (arith, nat_tests, h, k)
 
@@ -116,12 +114,6 @@ module _ (here : StepContext) (model : MemoryModel here.tree) (name : Names) (m 
 
   few_below : length m.below + 1 ≤ m.depth
   few_below = subst (λ d. length m.below + 1 ≤ d) (sym at.frames.depth) (omega (arith, at.frames.few))
-
-  -- both look at the same number of frames
-  pub depth_is : is_full m ≡ is_too_deep here s f below
-  depth_is =
-      let counted : length m.below ≡ length below = agree_length (IsFrame here.tree name) m.below below at.frames.frames.1 in
-      full_is_deep (length m.below) m.depth few_below ∙ ap (λ d. nat_le d (suc (length m.below))) at.frames.depth ∙ ap (λ n. nat_le here.limits.depth (suc n)) counted
 
   -- ---- the machine's frames
 
@@ -478,7 +470,7 @@ module _ (here : StepContext) (model : MemoryModel here.tree) (name : Names) (m 
       Alike (when_some (number_of here.tree (c, built)) (λ n. new_object_transition model.phase number.class slots (called_method (c, built) n) m o)) (if is_too_deep here s f below then StateRaises StackOverflow else state_birth here s f below contents entered_by)
   by_number t =
       let framed : Bool → StateEffect = λ b. if b then StateRaises StackOverflow else state_birth here s f below contents entered_by in
-      let same : is_full m ≡ is_too_deep here s f below = depth_is here model name m o statics printed s f below c parameters number is at in
+      let same : is_full m ≡ is_too_deep here s f below = full_alike here model name m o statics printed s f below (Named.NewObject c parameters) (Resolved.NewObject number) at in
       let own = constructor_has_id here.tree legal c parameters number is in
       subst (λ x. Alike (when_some x (λ n. new_object_transition model.phase number.class slots (called_method (c, built) n) m o)) (framed (is_too_deep here s f below))) (sym own.1)
       (subst (λ b. Alike (new_object_transition model.phase number.class slots (called_method (c, built) own.0) m o) (framed b)) same
