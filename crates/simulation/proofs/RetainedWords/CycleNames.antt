@@ -26,7 +26,7 @@ use Rattle.collector.specs.Holds.{AnyLive, Hold, MarkedOnly, NewOnly, passes}
 use Rattle.collector.specs.Phases.{is_live, is_marked_cell, is_marked_old, is_new}
 use Rattle.collector.specs.References.{Test, is_permanent}
 use Rattle.collector.proofs.ThreadReferences.AfterStores.{marked_first}
-use Rattle.collector.proofs.Marks.MarkChanges.{AreDarker, stays_marked}
+use Rattle.collector.proofs.Marks.MarkChanges.{AreDarker, darker_tests}
 use Rattle.collector.proofs.Births.BirthSoundness.{IsNear, granted}
 use Rattle.collector.proofs.Marks.MarkedHeaps.{AreDarker-with_marked}
 use Rattle.collector.proofs.Addresses.TagChanges.{AreAlike}
@@ -126,7 +126,7 @@ module _ (m n : Spaces) (darker : AreDarker m n) where
   pub copies_darker : (posted_phase : Phase) → AreCopiesOfMarked posted_phase m → AreCopiesOfMarked posted_phase n
   copies_darker posted_phase are copying y new =
       let x = are copying y (sym (darker_new y) ∙ new) in
-      record { old = x.old; marked = stays_marked m n darker x.old x.marked; copy = darker_forward x.old ∙ x.copy }
+      record { old = x.old; marked = (darker_tests m n darker).marked x.old x.marked; copy = darker_forward x.old ∙ x.copy }
 
   -- what is kept then was kept before, or was marked since
   pub kept_darker : (posted_phase : Phase) (a : Addr) → is_kept posted_phase n a ≡ true → (is_kept posted_phase m a ≡ true) ⊎ ((is_marked_old n a ≡ true) × (is_marked_old m a ≡ true → is_kept posted_phase m a ≡ true))
