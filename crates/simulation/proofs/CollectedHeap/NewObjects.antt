@@ -44,8 +44,7 @@ use Rattle.simulation.proofs.CollectedHeap.ObjectChanges.{born_number}
 use Rattle.simulation.proofs.Memory.NamedAddresses.{literal_beside}
 use Rattle.interpreter.specs.cil_model.declared.phases.Phase.TheVariants.{PreFlip, HeapFlip, ThreadFlip}
 use Rattle.interpreter.proofs.cil_model.SameLaws.{never}
-use Rattle.collector.proofs.Addresses.Tests.{new_is_live}
-use Rattle.collector.proofs.Births.HeapsAfterBirths.{same_address}
+use Rattle.collector.proofs.Addresses.Tests.{new_is_live, same_address}
 
 -- ---- Where both copies of an object have all words, both are live.
 

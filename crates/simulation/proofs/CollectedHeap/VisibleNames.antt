@@ -28,7 +28,7 @@ use Rattle.collector.specs.declared.progress.Progress.{Progress}
 use Rattle.collector.proofs.ThreadReferences.LiveValues.{held_by, may_hold_is_held, reference_again, held_is_new, live_is_there}
 use Rattle.collector.proofs.Marks.MarksOfStores.{Grows, grows_itself}
 use Rattle.collector.proofs.Addresses.Disjunctions.{or_first, or_second}
-use Rattle.collector.proofs.Addresses.Tests.{HoldMeans, hold_means, loads_may_be_held, new_has_cell}
+use Rattle.collector.proofs.Addresses.Tests.{HoldMeans, hold_means, loads_may_be_held, new_has_cell, same_address}
 use Rattle.simulation.specs.Refines.{Extends, IsBornAt, IsHeap, IsWord, Names, AreTwins}
 use Rattle.simulation.proofs.Memory.MemoryModels.{AreStatics, IsReadable, IsReference}
 use Rattle.simulation.proofs.Memory.ReferenceSlots.{IsLinked, is_reference_state, typed_is_linked}
@@ -44,7 +44,6 @@ use Rattle.interpreter.specs.instructions.barriers.Barriers.{are_comparable, are
 use Rattle.interpreter.proofs.object_memory.TwoSpaces.TwoBlocks.{apart, forward_null, old_is_cell}
 use Rattle.collector.proofs.Copies.VisibleCopies.{has_words}
 use Rattle.collector.proofs.HeapStores.ReachedCopies.{IsBeside, close_is_beside}
-use Rattle.collector.proofs.Births.HeapsAfterBirths.{same_address}
 
 -- ---- what fits
 
